@@ -1,1 +1,6 @@
+pub mod Told
+pub mod Paths
+pub mod SourceTree
+pub mod Cache
+pub mod History
 pub mod Images

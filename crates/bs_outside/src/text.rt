@@ -13,6 +13,9 @@ use std::cmp::Ordering;
 use std::hash::{Hash, Hasher};
 use std::marker::Model;
 
+/// The error of a call whose only refusal is want of memory.
+pub type NoMemory = AllocError;
+
 /// A path, a name or another text, in bytes.
 #[derive(Drop, Debug)]
 pub struct Text {
