@@ -1,0 +1,98 @@
+use Rattle.std.proofs.Common.{◌≡◌, ℕ, ◌+◌, ◌-◌, ◌<◌, ◌≤◌, nat_lt, Bool, true, false, cond, not, ◌&&◌, ◌||◌, List, [], ◌∷◌, ◌++◌, length, take, drop, Some, None, refl, ◌∙◌, ap, arith}
+use Rattle.std.specs.List.{All, list_all, position, position_or_len, onto_first}
+use Rattle.std.proofs.lemmas.List.{append-nil, take_rest}
+use Rattle.std.proofs.lemmas.List.Elements.{All-nil, All-cons, All-head, All-tail, All-take, All-push}
+use Rattle.std.proofs.lemmas.List.Quantifiers.{position-Some}
+use Rattle.std.proofs.lemmas.List.Splits.{slice_split_none, slice_split_at, slice_split_first}
+use Rattle.std.proofs.lemmas.List.Sums.{position_or_len_is, fails_before_first}
+use Rattle.std.proofs.lemmas.Bool.Decides.{nat_tests}
+use Rattle.bs_outside.specs.Paths.{is_slash, segments_of, is_named, is_empty_segment, is_dot, is_dot_dot, reached_by, reached, joined, path_of, has_named_segments, may_be_path}
+
+pub false_unless : (b : Bool) → (b ≡ true → ⊥) → false ≡ b
+false_unless b = elim b as (λ b. (b ≡ true → ⊥) → false ≡ b) [ true ↦ λ no. absurd (no refl) | false ↦ λ no. refl ]
+
+both_true : (a b : Bool) → a ≡ true → b ≡ true → (a && b) ≡ true
+both_true true b e f = f
+both_true false b e f = e
+
+-- where a slash stands, what is before it is the first segment
+pub segments_at_slash : (text : List ℕ) (at : ℕ) → position is_slash text ≡ Some at → segments_of text ≡ take at text ∷ segments_of (take (length text - (at + 1)) (drop (at + 1) text))
+segments_at_slash text at e =
+    let found = position-Some is_slash text at 0 e in
+    let place : position_or_len is_slash text ≡ at = position_or_len_is is_slash text at 0 (omega (arith, found.0)) found.2 (λ _. found.1) in
+    let here : position_or_len is_slash text < length text = rw place found.0 in
+    rw (take_rest text (at + 1)) (slice_split_first is_slash text 0 here ∙ ap (λ n. take n text ∷ segments_of (drop (n + 1) text)) place)
+
+not_below : (a b : ℕ) → cond (nat_lt a b) (Some a) None ≡ None → b ≤ a
+not_below a b e = grind (arith, nat_tests)
+
+-- where no slash stands, there is one segment
+pub segments_no_slash : (text : List ℕ) → position is_slash text ≡ None → segments_of text ≡ text ∷ []
+segments_no_slash text e =
+    let behind : length text ≤ position_or_len is_slash text = not_below _ _ e in
+    slice_split_none is_slash text (λ k d within. fails_before_first is_slash text k d (omega arith))
+
+-- no slash stands in it
+abbrev pub HasNoSlash : List ℕ → Type 0
+HasNoSlash segment = All (λ byte. is_slash byte ≡ false) segment
+
+-- it names something, and no slash stands in it
+pub record IsPlain (segment : List ℕ) : Type 0 where
+  pub named : is_named segment ≡ true
+  pub whole : HasNoSlash segment
+
+onto_whole : (byte : ℕ) (parts : List (List ℕ)) → is_slash byte ≡ false → All HasNoSlash parts → All HasNoSlash (onto_first byte parts)
+onto_whole byte [] e h = All-cons HasNoSlash (byte ∷ []) [] (All-cons (λ b. is_slash b ≡ false) byte [] e (All-nil _)) h
+onto_whole byte (part ∷ parts) e h =
+    All-cons HasNoSlash (byte ∷ part) parts (All-cons (λ b. is_slash b ≡ false) byte part e (All-head HasNoSlash part parts h)) (All-tail HasNoSlash part parts h)
+
+split_whole : (byte : ℕ) (parts : List (List ℕ)) (slash : Bool) → is_slash byte ≡ slash → All HasNoSlash parts → All HasNoSlash (cond slash ([] ∷ parts) (onto_first byte parts))
+split_whole byte parts true e h = All-cons HasNoSlash [] parts (All-nil (λ b. is_slash b ≡ false)) h
+split_whole byte parts false e h = onto_whole byte parts e h
+
+-- no segment has a slash in it
+pub segments_whole : (text : List ℕ) → All HasNoSlash (segments_of text)
+segments_whole [] = All-cons HasNoSlash [] [] (All-nil (λ b. is_slash b ≡ false)) (All-nil _)
+segments_whole (byte ∷ bytes) = split_whole byte (segments_of bytes) (is_slash byte) refl (segments_whole bytes)
+
+step_plain : (empty dot dots : Bool) (at : List (List ℕ)) (segment : List ℕ) → All IsPlain at → ((not empty && (not dot && not dots)) ≡ true → IsPlain segment)
+    → All IsPlain (cond (empty || dot) at (cond dots (take (length at - 1) at) (at ++ segment ∷ [])))
+step_plain true dot dots at segment h p = h
+step_plain false true dots at segment h p = h
+step_plain false false true at segment h p = All-take IsPlain (length at - 1) at h
+step_plain false false false at segment h p = All-push IsPlain at segment h (p refl)
+
+reached_by_plain : (at : List (List ℕ)) (segment : List ℕ) → All IsPlain at → HasNoSlash segment → All IsPlain (reached_by at segment)
+reached_by_plain at segment h w = step_plain (is_empty_segment segment) (is_dot segment) (is_dot_dot segment) at segment h (λ n. record { named = n; whole = w })
+
+-- every segment that is reached names something
+pub reached_plain : (at segments : List (List ℕ)) → All IsPlain at → All HasNoSlash segments → All IsPlain (reached at segments)
+reached_plain at [] h w = h
+reached_plain at (segment ∷ segments) h w =
+    reached_plain (reached_by at segment) segments (reached_by_plain at segment h (All-head HasNoSlash segment segments w)) (All-tail HasNoSlash segment segments w)
+
+-- going on by a text reaches such segments from such
+pub plain_further : (was now : List (List ℕ)) (text : List ℕ) → now ≡ reached was (segments_of text) → All IsPlain was → All IsPlain now
+plain_further was now text e h = rw e (reached_plain was (segments_of text) h (segments_whole text))
+
+pub plain_at_first : (now : List (List ℕ)) → now ≡ [] → All IsPlain now
+plain_at_first now e = rw e (All-nil IsPlain)
+
+-- segments that were joined are those of the path
+pub segments_joined : (segment : List ℕ) (segments : List (List ℕ)) → All IsPlain (segment ∷ segments) → segments_of (segment ++ joined segments) ≡ segment ∷ segments
+segments_joined segment [] h = rw (append-nil segment) (slice_split_none is_slash segment (All-head IsPlain segment [] h).whole)
+segments_joined segment (next ∷ rest) h =
+    slice_split_at is_slash segment 47 (next ++ joined rest) (All-head IsPlain segment (next ∷ rest) h).whole refl ∙ ap (λ l. segment ∷ l) (segments_joined next rest (All-tail IsPlain segment (next ∷ rest) h))
+
+all_named : (segments : List (List ℕ)) → All IsPlain segments → list_all is_named segments ≡ true
+all_named [] h = refl
+all_named (segment ∷ segments) h = both_true _ _ (All-head IsPlain segment segments h).named (all_named segments (All-tail IsPlain segment segments h))
+
+-- the path of such segments is written as a path is
+pub path_named : (segments : List (List ℕ)) → All IsPlain segments → has_named_segments (path_of segments) ≡ true
+path_named [] h = refl
+path_named ([] ∷ segments) h = let no : false ≡ true = (All-head IsPlain [] segments h).named in cc
+path_named ((byte ∷ bytes) ∷ segments) h = rw (segments_joined (byte ∷ bytes) segments h) (all_named ((byte ∷ bytes) ∷ segments) h)
+
+pub normal_path : (path : List ℕ) (segments : List (List ℕ)) → All IsPlain segments → path ≡ path_of segments → may_be_path path ≡ true → (may_be_path path && has_named_segments path) ≡ true
+normal_path path segments h e m = both_true _ _ m (rw e (path_named segments h))
