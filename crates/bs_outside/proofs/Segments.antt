@@ -1,12 +1,12 @@
-use Rattle.std.proofs.Common.{◌≡◌, ℕ, ◌+◌, ◌-◌, ◌<◌, ◌≤◌, nat_lt, Bool, true, false, cond, not, ◌&&◌, ◌||◌, List, [], ◌∷◌, ◌++◌, length, take, drop, Some, None, refl, ◌∙◌, ap, arith}
-use Rattle.std.specs.List.{All, list_all, position, position_or_len, onto_first}
-use Rattle.std.proofs.lemmas.List.{append-nil, take_rest}
+use Rattle.std.proofs.Common.{◌≡◌, ℕ, zero, suc, ◌+◌, ◌-◌, ◌<◌, ◌≤◌, nat_lt, Bool, true, false, cond, not, ◌&&◌, ◌||◌, ◌==◌, List, [], ◌∷◌, ◌++◌, length, take, drop, get_or, Some, None, refl, sym, ◌∙◌, ap, arith}
+use Rattle.std.specs.List.{All, list_all, position, position_or_len, onto_first, suffix_len}
+use Rattle.std.proofs.lemmas.List.{append-nil, take_rest, length-take}
 use Rattle.std.proofs.lemmas.List.Elements.{All-nil, All-cons, All-head, All-tail, All-take, All-push}
 use Rattle.std.proofs.lemmas.List.Quantifiers.{position-Some}
 use Rattle.std.proofs.lemmas.List.Splits.{slice_split_none, slice_split_at, slice_split_first}
-use Rattle.std.proofs.lemmas.List.Sums.{position_or_len_is, fails_before_first}
+use Rattle.std.proofs.lemmas.List.Sums.{position_or_len_is, suffix_len_is, fails_before_first}
 use Rattle.std.proofs.lemmas.Bool.Decides.{nat_tests}
-use Rattle.bs_outside.specs.Paths.{is_slash, segments_of, is_named, is_empty_segment, is_dot, is_dot_dot, reached_by, reached, joined, path_of, has_named_segments, may_be_path}
+use Rattle.bs_outside.specs.Paths.{is_slash, segments_of, is_named, is_empty_segment, is_dot, is_dot_dot, reached_by, reached, joined, path_of, has_named_segments, may_be_path, root_or, parent_of}
 
 pub false_unless : (b : Bool) → (b ≡ true → ⊥) → false ≡ b
 false_unless b = elim b as (λ b. (b ≡ true → ⊥) → false ≡ b) [ true ↦ λ no. absurd (no refl) | false ↦ λ no. refl ]
@@ -96,3 +96,44 @@ path_named ((byte ∷ bytes) ∷ segments) h = rw (segments_joined (byte ∷ byt
 
 pub normal_path : (path : List ℕ) (segments : List (List ℕ)) → All IsPlain segments → path ≡ path_of segments → may_be_path path ≡ true → (may_be_path path && has_named_segments path) ≡ true
 normal_path path segments h e m = both_true _ _ m (rw e (path_named segments h))
+
+not_slash : (byte : ℕ) → (byte ≡ 47 → ⊥) → not (byte == 47) ≡ true
+not_slash byte ne = grind (arith, nat_tests)
+
+slash_no : (byte : ℕ) → byte ≡ 47 → not (byte == 47) ≡ false
+slash_no byte e = grind (arith, nat_tests)
+
+long_root : (xs : List ℕ) → 0 < length xs → root_or xs ≡ xs
+long_root [] h = absurd (omega arith)
+long_root (x ∷ xs) h = refl
+
+-- from this place on no slash stands in it
+abbrev pub NoSlashFrom : List ℕ → ℕ → Type 0
+NoSlashFrom path end = (k : ℕ) → end ≤ k → k < length path → get_or path k 0 ≡ 47 → ⊥
+
+-- the last slash stands right before end
+pub parent_at : (path : List ℕ) (end : ℕ) → 1 < end → end ≤ length path → NoSlashFrom path end → get_or path (end - 1) 0 ≡ 47 → take (end - 1) path ≡ parent_of path
+parent_at path end lo hi none here =
+    let count : suffix_len (λ x. not (is_slash x)) path ≡ length path - end =
+    suffix_len_is (λ x. not (is_slash x)) path end 0 hi (λ k from to. not_slash (get_or path k 0) (none k from to)) (λ _. slash_no (get_or path (end - 1) 0) here) in
+    let same : length path - suffix_len (λ x. not (is_slash x)) path - 1 ≡ end - 1 = omega arith in
+    let long : 0 < length (take (end - 1) path) = omega (arith, length-take (end - 1) path) in
+    rw same (sym (long_root (take (end - 1) path) long))
+
+passes_at : (byte : ℕ) (bytes : List ℕ) (end k : ℕ) → end ≤ 1 → (byte == 47) ≡ false → NoSlashFrom (byte ∷ bytes) end → k < length (byte ∷ bytes) → not (is_slash (get_or (byte ∷ bytes) k 0)) ≡ true
+passes_at byte bytes end zero lo e none to = ap not e
+passes_at byte bytes end (suc k) lo e none to = not_slash (get_or (byte ∷ bytes) (suc k) 0) (none (suc k) (omega arith) to)
+
+first_cases : (byte : ℕ) (bytes : List ℕ) (end : ℕ) (slash : Bool) → (byte == 47) ≡ slash → end ≤ 1 → NoSlashFrom (byte ∷ bytes) end → length (byte ∷ bytes) - suffix_len (λ x. not (is_slash x)) (byte ∷ bytes) - 1 ≡ 0
+first_cases byte bytes end true e lo none =
+    let count = suffix_len_is (λ x. not (is_slash x)) (byte ∷ bytes) 1 0 (omega arith) (λ k from to. not_slash (get_or (byte ∷ bytes) k 0) (none k (omega arith) to)) (λ _. ap not e) in omega (arith, count)
+first_cases byte bytes end false e lo none =
+    let count = suffix_len_is (λ x. not (is_slash x)) (byte ∷ bytes) 0 0 (omega arith) (λ k _ to. passes_at byte bytes end k lo e none to) (λ no. absurd (omega arith)) in omega (arith, count)
+
+suffix_most : (path : List ℕ) (end : ℕ) → end ≤ 1 → NoSlashFrom path end → length path - suffix_len (λ x. not (is_slash x)) path - 1 ≡ 0
+suffix_most [] end lo none = omega arith
+suffix_most (byte ∷ bytes) end lo none = first_cases byte bytes end (byte == 47) refl lo none
+
+-- no slash stands behind the first place
+pub parent_top : (path : List ℕ) (end : ℕ) → end ≤ 1 → NoSlashFrom path end → 47 ∷ [] ≡ parent_of path
+parent_top path end lo none = rw (suffix_most path end lo none) refl

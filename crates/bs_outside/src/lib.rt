@@ -16,7 +16,7 @@ pub use faults::{InputFault, ShelfFault, SinkFault, TreeFault};
 pub use images::Image;
 pub use inputs::Input;
 pub use names::{CacheKind, CacheName, Loaded, Temp, is_same_name};
-pub use paths::{PATH_LIMIT, is_normal_path, is_segment, normal};
+pub use paths::{PATH_LIMIT, is_normal_path, is_segment, normal, parent};
 pub use shelves::Shelf;
 pub use sinks::{Sink, put_all};
 pub use sqlite_items::{Boxed, Items};

@@ -3,7 +3,7 @@ ghost use Rattle.std.specs.Prelude.{◌≡◌, ◌==◌, ◌&&◌, ◌++◌, ◌
 ghost use Rattle.std.specs.List.{list_all, position};
 ghost use Rattle.std.specs.Option.{option_copied};
 ghost use Rattle.std.specs.Str.{is_utf8};
-ghost use Rattle.bs_outside.specs.Paths.{is_named, may_be_path, has_named_segments, is_normal_path, IsNormalPath, is_segment, begins_with_slash, reached, reached_by, segments_behind, segments_of, path_of, normal_of, is_slash};
+ghost use Rattle.bs_outside.specs.Paths.{is_named, may_be_path, has_named_segments, is_normal_path, IsNormalPath, is_segment, begins_with_slash, reached, reached_by, segments_behind, segments_of, path_of, normal_of, is_slash, parent_of};
 
 use crate::{NoMemory, Text};
 use std::alloc::Global;
@@ -65,6 +65,20 @@ fn has_named_segments(text: &[u8]) -> bool
         [only] => *only == b'/',
         [first, rest @ ..] => *first == b'/' && are_named(rest),
     }
+}
+
+/// The folder in which the path lies: what stands before its last slash, or `/`.
+pub fn parent(path: &[u8]) -> &[u8]
+    ensures { result.now ≡ parent_of path.now }
+{
+    let mut end = path.len();
+    while end > 1 {
+        if path[end - 1] == b'/' {
+            return &path[..end - 1];
+        }
+        end -= 1;
+    }
+    b"/"
 }
 
 fn slash_in(text: &[u8]) -> Option<usize>

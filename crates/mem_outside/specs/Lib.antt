@@ -1,0 +1,3 @@
+pub mod Nothing
+pub mod Schedule
+pub mod TreeLists
