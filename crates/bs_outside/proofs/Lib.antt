@@ -1,3 +1,4 @@
 pub mod Owing
 pub mod Segments
 pub mod Since
+pub mod TextMaps

@@ -32,6 +32,10 @@ pub owes_prefix : {A : Type 0} {before now next : Option (List A)} {all rest : L
 owes_prefix piece left o e f =
     record { rest = f.rest ++ left; owes = owes_rest f.owes.came (f.rest ++ left) o (e ∙ ap (λ l. l ++ left) (sym f.owes.split) ∙ append_assoc f.owes.came f.rest left) f.owes.told }
 
+-- of a first part of what is owed, all but a rest came
+pub owes_then : {A : Type 0} {before now next : Option (List A)} {all first rest : List A} (left : List A) → Owes before now all (first ++ left) → Owes now next first rest → Owes before next all (rest ++ left)
+owes_then {rest = rest} left o p = owes_rest p.came (rest ++ left) o (ap (λ l. l ++ left) (sym p.split) ∙ append_assoc p.came rest left) p.told
+
 -- nothing more will come
 pub owes_stop : {A : Type 0} {before now : Option (List A)} {all : List A} (rest : List A) → Owes before now all rest → AddsPrefix before now all
 owes_stop rest o = record { rest = rest; owes = o }
@@ -44,9 +48,6 @@ owes_none {before = before} o = o.told ∙ ap (added before) (sym (append-nil o.
 pub owes_cut : {A : Type 0} {before now next : Option (List A)} {all rest : List A} → Owes before now all rest → AddsPrefix now next rest → AddsPrefix before next all
 owes_cut {rest = rest} o f = owes_prefix rest [] o (sym (append-nil rest)) f
 
--- what tactics take of this file
-pub ruleset owing = (owes_all, owes_drop, owes_cut, owes_none)
-
 -- what holds at any rate holds of an error
 pub on_err : {T E Q : Type 0} (r : Result T E) → Q → OnErr r Q
 on_err (Ok x) q = tt
@@ -55,3 +56,10 @@ on_err (Err e) q = q
 -- nothing came
 pub none_came : {A : Type 0} (told : Option (List A)) (all : List A) → AddsPrefix told told all
 none_came told all = owes_stop all (owes_all told all)
+
+-- all came at once
+pub all_came : {A : Type 0} {told now : Option (List A)} {all : List A} → now ≡ added told all → Owes told now all []
+all_came {all = all} e = record { came = all; split = append-nil all; told = e }
+
+-- what tactics take of this file
+pub ruleset owing = (owes_all, owes_drop, owes_cut, owes_none, none_came, all_came)

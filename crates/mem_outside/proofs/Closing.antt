@@ -1,14 +1,14 @@
 use Rattle.std.proofs.Common.{◌≡◌, ℕ, ◌^◌, ◌<◌, Bool, true, false, cond, not, ◌&&◌, ◌||◌, nat_lt, Option, Some, None, IfSome, IsSome, ◌⊎◌, inl, inr, List, [], ◌∷◌, ◌++◌, length, map, refl, sym, ◌∙◌, ap, append_assoc, arith}
 use Rattle.std.specs.Ordering.{nat_cmp, eq_by_cmp}
 use Rattle.std.specs.Cmp.Lexicographic.{slice_cmp, nat_list_cmp_total, texts_ties, same_text}
-use Rattle.std.specs.FinMap.{get, find, contains_key, contains_key-keys, get-from_entries, keys, insert}
+use Rattle.std.specs.FinMap.{get, find, contains_key, contains_key-keys, get-from_entries, keys, insert, get-insert, empty, get-empty}
 use Rattle.std.specs.List.{list_all, list_any}
 use Rattle.std.proofs.lemmas.Bool.Decides.{nat_tests}
 use Rattle.std.proofs.lemmas.Bool.{false≢true}
 use Rattle.bs_outside.specs.Paths.{is_normal_path, same_bytes, parent_of}
 use Rattle.bs_outside.specs.SourceTree.{SourceTree, IsSourceTree, time_of, is_folder}
 use Rattle.bs_outside.specs.declared.trees.Item.{Item}
-use Rattle.mem_outside.specs.TreeLists.{map_of, is_entry, are_entries, has_place, is_closed, is_tree_list}
+use Rattle.mem_outside.specs.TreeLists.{map_of, is_entry, are_entries, has_place, is_closed, is_tree_list, IsTimely}
 
 pub no_length : {A : Type 0} (xs : List A) → length xs ≡ 0 → xs ≡ []
 no_length [] e = refl
@@ -34,6 +34,18 @@ below_limit n m e = grind (arith, nat_tests)
 
 pub timely : (path : List ℕ) (item : Item) → is_entry (path, item) ≡ true → time_of item < 2 ^ 63
 timely path item e = below_limit (time_of item) (2 ^ 63) (second_true (is_normal_path path) _ e)
+
+-- no entry is late
+pub timely_none : (tree : SourceTree) → tree ≡ empty → IsTimely tree
+timely_none tree e q = rw (e, get-empty) tt
+
+timely_either : (here : Bool) (item : Item) (found : Option Item) → time_of item < 2 ^ 63 → IfSome found (λ f. time_of f < 2 ^ 63) → IfSome (cond here (Some item) found) (λ f. time_of f < 2 ^ 63)
+timely_either true item found t f = t
+timely_either false item found t f = f
+
+-- an entry more, whose time is below the limit
+pub timely_insert : (tree next : SourceTree) (path : List ℕ) (item : Item) → next ≡ insert tree path item → IsTimely tree → time_of item < 2 ^ 63 → IsTimely next
+timely_insert tree next path item n h t q = rw (n, get-insert nat_list_cmp_total tree path item q) (timely_either (eq_by_cmp (slice_cmp nat_cmp) q path) item (get tree q) t (h q))
 
 -- what was taken from the back of the list, and the map of it
 pub record Taken (rest items : List (List ℕ × Item)) (files : SourceTree) : Type 0 where

@@ -1,4 +1,3 @@
 pub mod Closing
 pub mod Counting
-pub mod Finding
 pub mod Listing

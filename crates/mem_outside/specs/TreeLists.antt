@@ -1,4 +1,4 @@
-use Rattle.std.specs.Prelude.{ℕ, ◌^◌, Bool, true, not, ◌&&◌, ◌||◌, nat_lt, is_some, List, [], ◌∷◌}
+use Rattle.std.specs.Prelude.{ℕ, ◌^◌, Bool, true, not, ◌&&◌, ◌||◌, nat_lt, is_some, IfSome, ◌<◌, List, [], ◌∷◌}
 use Rattle.std.specs.List.{list_all}
 use Rattle.std.specs.FinMap as map
 use Rattle.bs_outside.specs.Paths.{is_normal_path, same_bytes, parent_of}
@@ -8,6 +8,10 @@ use Rattle.bs_outside.specs.declared.trees.Item.{Item}
 -- a path with what stands there, whose time is below 2 ^ 63
 abbrev pub is_entry : List ℕ × Item → Bool
 is_entry e = is_normal_path e.0 && nat_lt (time_of e.1) (2 ^ 63)
+
+-- all its times are below 2 ^ 63
+abbrev pub IsTimely : SourceTree → Type 0
+IsTimely tree = (path : List ℕ) → IfSome (map.get tree path) (λ found. time_of found < 2 ^ 63)
 
 -- the map of these entries
 abbrev pub map_of : List (List ℕ × Item) → SourceTree

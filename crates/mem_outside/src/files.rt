@@ -8,8 +8,8 @@ ghost use Rattle.bs_outside.specs.SourceTree.{stat_at, list_at, bytes_at, time_o
 ghost use Rattle.mem_outside.specs.TreeLists.{map_of, is_entry, has_place, is_closed, is_tree_list};
 
 use bs_outside::{
-    Bytes, Item, Items, Kind, Listed, Listing, NoMemory, Stat, Text, is_normal_path, is_segment,
-    parent,
+    Bytes, Item, Items, Kind, Listed, Listing, NoMemory, Stat, Text, TextMap, is_normal_path,
+    is_segment, parent,
 };
 use std::alloc::Global;
 use std::collections::BTreeMap;
@@ -18,30 +18,23 @@ use std::marker::Model;
 /// Files and folders by their paths.
 #[derive(Drop, Debug)]
 pub struct Files {
-    items: BTreeMap<Text, Item>,
+    items: TextMap<Item>,
 }
 
 impl Model for Files {
-    ghost use Rattle.std.specs.Prelude.{ℕ, ◌<◌, ◌^◌};
-    ghost use Rattle.std.specs.List.{All};
     ghost use Rattle.std.specs.FinMap as map;
-    ghost use Rattle.std.specs.BTreeMap.{values, IsOrdered};
-    ghost use Rattle.std.specs.Ordering.{nat_cmp};
-    ghost use Rattle.std.specs.Cmp.Lexicographic.{slice_cmp};
-    ghost use Rattle.bs_outside.specs.SourceTree.{SourceTree, time_of};
+    ghost use Rattle.bs_outside.specs.SourceTree.{SourceTree};
     ghost use Rattle.std.specs.Coded.{coded_ℕ, coded_list};
     ghost use Rattle.bs_outside.specs.contracts.trees.Item as item;
+    ghost use Rattle.mem_outside.specs.TreeLists.{IsTimely};
 
     ghost Value = { SourceTree };
 
     ghost coded = { map.code (coded_list coded_ℕ) item.the_row.coded };
 
-    ghost view = { λ a. map.from_sorted a.items.entries };
+    ghost view = { λ a. a.items };
 
-    ghost invariant = { λ a. record {
-      timely : All (λ item. time_of item < 2 ^ 63) (values a.items);
-      ordered : IsOrdered (slice_cmp nat_cmp) a.items;
-    } };
+    ghost invariant = { λ a. IsTimely a.items };
 }
 
 impl Files {
@@ -92,7 +85,7 @@ impl Files {
         match self.at(path) {
             Some(Item::Dir(_)) => {
                 let stem = stem(alloc, path.as_slice())?;
-                Ok(Some(names_in(alloc, &self.items, &stem)?))
+                Ok(Some(names_in(alloc, self.items.index(), &stem)?))
             }
             Some(Item::File(_, _)) => Ok(None),
             None => Ok(None),
@@ -125,7 +118,7 @@ impl Files {
         ensures { result ≡ map.empty }
     {
         Files {
-            items: BTreeMap::new(alloc),
+            items: TextMap::new(alloc),
         }
     }
 
@@ -148,7 +141,7 @@ impl Files {
         if self.at(&Text::new(alloc, b"/")?).is_none() {
             return Ok(false);
         }
-        for (path, _) in &self.items {
+        for (path, _) in self.items.index() {
             if !self.has_place(alloc, path)? {
                 return Ok(false);
             }

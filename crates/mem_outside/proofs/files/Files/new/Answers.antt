@@ -1,5 +1,5 @@
-use Rattle.mem_outside.proofs.Finding.{none_is_empty}
+use Rattle.mem_outside.proofs.Closing.{timely_none}
 use Rattle.mem_outside.proofs.files.Files.new.Goals as goal
 
-pub returns : goal.returns
-returns c = none_is_empty _ c.new.ensures.empty
+pub invariant_of-result : goal.invariant_of-result
+invariant_of-result c = timely_none _ c.new.ensures
