@@ -1,10 +1,9 @@
-use Rattle.std.proofs.Common.{◌≡◌, ℕ, zero, suc, ◌+◌, ◌-◌, ◌<◌, ◌≤◌, nat_lt, Bool, true, false, cond, not, ◌&&◌, ◌||◌, ◌==◌, List, [], ◌∷◌, ◌++◌, length, take, drop, get_or, Some, None, refl, sym, ◌∙◌, ap, arith}
-use Rattle.std.specs.List.{All, list_all, position, position_or_len, onto_first, suffix_len}
-use Rattle.std.proofs.lemmas.List.{append-nil, take_rest, length-take}
+use Rattle.std.proofs.Common.{◌≡◌, ℕ, zero, suc, ◌-◌, ◌<◌, ◌≤◌, Bool, true, false, cond, not, ◌&&◌, ◌||◌, ◌==◌, List, [], ◌∷◌, ◌++◌, length, take, get_or, refl, sym, ◌∙◌, ap, arith}
+use Rattle.std.specs.List.{All, list_all, onto_first, suffix_len}
+use Rattle.std.proofs.lemmas.List.{append-nil, length-take}
 use Rattle.std.proofs.lemmas.List.Elements.{All-nil, All-cons, All-head, All-tail, All-take, All-push}
-use Rattle.std.proofs.lemmas.List.Quantifiers.{position-Some}
-use Rattle.std.proofs.lemmas.List.Splits.{slice_split_none, slice_split_at, slice_split_first}
-use Rattle.std.proofs.lemmas.List.Sums.{position_or_len_is, suffix_len_is, fails_before_first}
+use Rattle.std.proofs.lemmas.List.Splits.{slice_split_none, slice_split_at}
+use Rattle.std.proofs.lemmas.List.Sums.{suffix_len_is}
 use Rattle.std.proofs.lemmas.Bool.Decides.{nat_tests}
 use Rattle.bs_outside.specs.Paths.{is_slash, segments_of, is_named, is_empty_segment, is_dot, is_dot_dot, reached_by, reached, joined, path_of, has_named_segments, may_be_path, root_or, parent_of}
 
@@ -14,23 +13,6 @@ false_unless b = elim b as (λ b. (b ≡ true → ⊥) → false ≡ b) [ true �
 both_true : (a b : Bool) → a ≡ true → b ≡ true → (a && b) ≡ true
 both_true true b e f = f
 both_true false b e f = e
-
--- where a slash stands, what is before it is the first segment
-pub segments_at_slash : (text : List ℕ) (at : ℕ) → position is_slash text ≡ Some at → segments_of text ≡ take at text ∷ segments_of (take (length text - (at + 1)) (drop (at + 1) text))
-segments_at_slash text at e =
-    let found = position-Some is_slash text at 0 e in
-    let place : position_or_len is_slash text ≡ at = position_or_len_is is_slash text at 0 (omega (arith, found.0)) found.2 (λ _. found.1) in
-    let here : position_or_len is_slash text < length text = rw place found.0 in
-    rw (take_rest text (at + 1)) (slice_split_first is_slash text 0 here ∙ ap (λ n. take n text ∷ segments_of (drop (n + 1) text)) place)
-
-not_below : (a b : ℕ) → cond (nat_lt a b) (Some a) None ≡ None → b ≤ a
-not_below a b e = grind (arith, nat_tests)
-
--- where no slash stands, there is one segment
-pub segments_no_slash : (text : List ℕ) → position is_slash text ≡ None → segments_of text ≡ text ∷ []
-segments_no_slash text e =
-    let behind : length text ≤ position_or_len is_slash text = not_below _ _ e in
-    slice_split_none is_slash text (λ k d within. fails_before_first is_slash text k d (omega arith))
 
 -- no slash stands in it
 abbrev pub HasNoSlash : List ℕ → Type 0

@@ -1,4 +1,5 @@
 pub mod Told
+pub mod Parts
 pub mod Paths
 pub mod SourceTree
 pub mod Cache

@@ -1,6 +1,7 @@
 use Rattle.std.specs.Prelude.{◌≡◌, ℕ, ◌-◌, ◌==◌, Bool, true, false, cond, not, ◌&&◌, ◌||◌, nat_le, Option, None, Some, List, [], ◌∷◌, ◌++◌, length, take}
-use Rattle.std.specs.List.{list_any, list_all, slice_split, before_last}
+use Rattle.std.specs.List.{list_any, list_all, before_last}
 use Rattle.std.specs.Str.{is_utf8}
+use Rattle.bs_outside.specs.Parts.{parts_of}
 use Rattle.std.specs.Cmp.Lexicographic.{pointwise}
 
 -- 46 is a dot, 47 a slash.
@@ -13,11 +14,7 @@ same_bytes = pointwise ◌==◌
 
 -- The parts of a text between its slashes, empty ones too.
 abbrev pub segments_of : List ℕ → List (List ℕ)
-segments_of text = slice_split is_slash text
-
-abbrev pub segments_behind : Option (List ℕ) → List (List ℕ)
-segments_behind None = []
-segments_behind (Some text) = segments_of text
+segments_of text = parts_of 47 text
 
 abbrev pub is_empty_segment : List ℕ → Bool
 is_empty_segment segment = length segment == 0

@@ -1,11 +1,10 @@
 //! Paths of the source tree.
 ghost use Rattle.std.specs.Prelude.{◌≡◌, ◌==◌, ◌&&◌, ◌++◌, ◌∷◌, [], true, IfOk, IfSome, OnOk, map, length, ◌<◌};
-ghost use Rattle.std.specs.List.{list_all, position};
-ghost use Rattle.std.specs.Option.{option_copied};
+ghost use Rattle.std.specs.List.{list_all};
 ghost use Rattle.std.specs.Str.{is_utf8};
-ghost use Rattle.bs_outside.specs.Paths.{is_named, may_be_path, has_named_segments, is_normal_path, IsNormalPath, is_segment, begins_with_slash, reached, reached_by, segments_behind, segments_of, path_of, normal_of, is_slash, parent_of};
+ghost use Rattle.bs_outside.specs.Paths.{is_named, may_be_path, has_named_segments, is_normal_path, IsNormalPath, is_segment, begins_with_slash, reached, reached_by, segments_of, path_of, normal_of, is_slash, parent_of};
 
-use crate::{NoMemory, Text};
+use crate::{NoMemory, Text, cut};
 use std::alloc::Global;
 
 /// The most bytes that a path has.
@@ -81,23 +80,6 @@ pub fn parent(path: &[u8]) -> &[u8]
     b"/"
 }
 
-fn slash_in(text: &[u8]) -> Option<usize>
-    ensures { result ≡ position is_slash text.now }
-{
-    text.iter().position(|byte| *byte == b'/')
-}
-
-/// The text up to its first slash, and what stands behind that slash.
-fn split_segment(text: &[u8]) -> (&[u8], Option<&[u8]>)
-    ensures segments { segments_of text.now ≡ result.0.now ∷ segments_behind (option_copied result.1) }
-    ensures shorter { IfSome result.1 (λ rest. length rest.now < length text.now) }
-{
-    match slash_in(text) {
-        Some(at) => (&text[..at], Some(&text[at + 1..])),
-        None => (text, None),
-    }
-}
-
 /// Goes one segment on.
 fn step<'a>(at: &mut Vec<&'a [u8]>, segment: &'a [u8]) -> Result<(), NoMemory>
     ensures { OnOk result (map (λ s. s.now) at.new.items ≡ reached_by (map (λ s. s.now) at.old.items) segment.now) }
@@ -119,7 +101,7 @@ fn walk<'a>(at: &mut Vec<&'a [u8]>, text: &'a [u8]) -> Result<(), NoMemory>
 {
     let mut left = Some(text);
     while let Some(rest) = left {
-        let (segment, behind) = split_segment(rest);
+        let (segment, behind) = cut(rest, b'/');
         step(at, segment)?;
         left = behind;
     }
