@@ -1,0 +1,2 @@
+pub mod SmallFile
+pub mod Faults
