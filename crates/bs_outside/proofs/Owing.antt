@@ -61,5 +61,9 @@ none_came told all = owes_stop all (owes_all told all)
 pub all_came : {A : Type 0} {told now : Option (List A)} {all : List A} → now ≡ added told all → Owes told now all []
 all_came {all = all} e = record { came = all; split = append-nil all; told = e }
 
+-- where all came, a prefix did
+pub whole_prefix : {A : Type 0} {told now : Option (List A)} {all : List A} → now ≡ added told all → AddsPrefix told now all
+whole_prefix e = owes_stop [] (all_came e)
+
 -- what tactics take of this file
-pub ruleset owing = (owes_all, owes_drop, owes_cut, owes_none, none_came, all_came)
+pub ruleset owing = (owes_all, owes_drop, owes_cut, owes_none, none_came, all_came, whole_prefix)

@@ -1,0 +1,52 @@
+use Rattle.std.specs.Prelude.{ℕ, Option, None, Some, Result, Ok, Err, List, [], ◌∷◌, ◌++◌, codes}
+use Rattle.std.specs.Fmt.{decimal}
+use Rattle.std.specs.FinMap as map
+use Rattle.bs_outside.specs.SourceTree.{SourceTree, bytes_at}
+use Rattle.ruby_reader.specs.SmallFile.{program_of}
+use Rattle.ruby_reader.specs.declared.tree.Program.{Program}
+use Rattle.bootsnap_top.specs.Plan.{plan_of}
+use Rattle.bootsnap_top.specs.SmallRun.{Answer, run_lines}
+use Rattle.bootsnap_top.specs.declared.ending.Ending.TheVariants as ending
+use Rattle.bootsnap_top.specs.declared.planning.Planned.{Planned}
+use Rattle.bootsnap_top.specs.declared.planning.Planned.TheVariants as planned
+
+abbrev pub usage_text : ℕ → List ℕ
+usage_text place = codes "bootsnap: word " ++ (decimal place ++ 10 ∷ [])
+
+abbrev pub missing_text : List ℕ → List ℕ
+missing_text path = codes "cannot load such file -- " ++ (path ++ codes " (LoadError)\n")
+
+-- the answer to a bad word
+abbrev pub usage_answer : ℕ → Answer
+usage_answer place = record { output = []; errors = usage_text place; ending = ending.Usage place }
+
+-- the run of a program whose text has the small form; another text cannot be run yet
+abbrev pub answer_of_program : List ℕ → Option Program → Answer
+answer_of_program path None = record { output = []; errors = []; ending = ending.NotYet }
+answer_of_program path (Some program) = run_lines path 1 map.empty program.lines
+
+abbrev pub answer_of_file : List ℕ → Option (List ℕ) → Answer
+answer_of_file path None = record { output = []; errors = missing_text path; ending = ending.Exit 1 }
+answer_of_file path (Some text) = answer_of_program path (program_of text)
+
+abbrev pub answer_of_plan : SourceTree → Result Planned ℕ → Answer
+answer_of_plan tree (Err place) = usage_answer place
+answer_of_plan tree (Ok (planned.Run path)) = answer_of_file path (bytes_at tree path)
+
+-- The answer to the words over a source tree: output, error text and ending. It knows no cache.
+abbrev pub answer_of : SourceTree → List (List ℕ) → Answer
+answer_of tree words = answer_of_plan tree (plan_of words)
+
+-- the stats that the plan asks for: one, of the file that is run
+abbrev pub stats_of_plan : Result Planned ℕ → List (List ℕ)
+stats_of_plan (Err place) = []
+stats_of_plan (Ok (planned.Run path)) = path ∷ []
+
+abbrev pub reads_of_found : List ℕ → Option (List ℕ) → List (List ℕ)
+reads_of_found path None = []
+reads_of_found path (Some text) = path ∷ []
+
+-- the reads that the plan asks for: one, of the file that is run, where it is there
+abbrev pub reads_of_plan : SourceTree → Result Planned ℕ → List (List ℕ)
+reads_of_plan tree (Err place) = []
+reads_of_plan tree (Ok (planned.Run path)) = reads_of_found path (bytes_at tree path)

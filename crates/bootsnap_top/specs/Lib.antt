@@ -1,0 +1,4 @@
+pub mod Plan
+pub mod SmallRun
+pub mod Answer
+pub mod Endings

@@ -1,0 +1,51 @@
+//! Error texts.
+ghost use Rattle.std.specs.Prelude.{◌≡◌, ◌≤◌, ◌++◌, IfOk, OnOk, OnErr, IsErrOf};
+ghost use Rattle.std.specs.String.{string_bytes};
+ghost use Rattle.bs_outside.specs.Told.{added, AddsPrefix, Rose};
+ghost use Rattle.bootsnap_top.specs.Answer.{usage_text, missing_text};
+
+use bs_outside::{NoMemory, Sink, SinkFault, Text, put_all};
+use std::alloc::Global;
+
+/// Writes that there is no such file.
+#[tactic(auto, using(bs_outside::proofs::Owing::none_came))]
+pub fn say_missing<O: Sink>(alloc: Global, err: &mut O, path: &Text) -> Result<(), SinkFault>
+    ensures ok { OnOk result (O.taken err.new ≡ added (O.taken err.old) (missing_text path.now)) }
+    ensures err { OnErr result (AddsPrefix (O.taken err.old) (O.taken err.new) (missing_text path.now)) }
+    ensures counted { O.faults err.old ≤ O.faults err.new }
+    ensures failed { IsErrOf result SinkFault.Failed → Rose (O.faults err.old) (O.faults err.new) }
+{
+    match missing_text(alloc, path) {
+        Ok(text) => put_all(alloc, err, &text),
+        Err(_) => Err(SinkFault::NoMemory),
+    }
+}
+
+fn missing_text(alloc: Global, path: &Text) -> Result<Vec<u8>, NoMemory>
+    ensures { IfOk result (λ text. text.items ≡ missing_text path.now) }
+{
+    let mut text = Vec::from_slice(alloc, b"cannot load such file -- ")?;
+    text.extend_from_slice(path.as_slice())?;
+    text.extend_from_slice(b" (LoadError)\n")?;
+    Ok(text)
+}
+
+/// Writes which word is bad.
+#[tactic(auto, using(bs_outside::proofs::Owing::none_came))]
+pub fn say_usage<O: Sink>(alloc: Global, err: &mut O, place: u64) -> Result<(), SinkFault>
+    ensures ok { OnOk result (O.taken err.new ≡ added (O.taken err.old) (usage_text place)) }
+    ensures err { OnErr result (AddsPrefix (O.taken err.old) (O.taken err.new) (usage_text place)) }
+    ensures counted { O.faults err.old ≤ O.faults err.new }
+    ensures failed { IsErrOf result SinkFault.Failed → Rose (O.faults err.old) (O.faults err.new) }
+{
+    match usage_text(alloc, place) {
+        Ok(text) => put_all(alloc, err, text.as_bytes()),
+        Err(_) => Err(SinkFault::NoMemory),
+    }
+}
+
+fn usage_text(alloc: Global, place: u64) -> Result<String, NoMemory>
+    ensures { IfOk result (λ text. string_bytes text ≡ usage_text place) }
+{
+    format!(in alloc; "bootsnap: word {place}\n")
+}
