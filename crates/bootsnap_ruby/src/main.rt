@@ -1,0 +1,111 @@
+//! The program: real files and streams for the top call.
+#![tactic(auto)]
+
+ghost use Rattle.std.specs.Prelude.{◌≡◌, IfOk, vec_len};
+
+mod folder;
+mod streams;
+#[cfg(test)]
+mod tests;
+
+use bootsnap_top::{Desk, Ending, bootsnap, status};
+use bs_outside::{Steps, Text};
+use folder::FolderTree;
+use mem_outside::NoShelf;
+use std::alloc::{AllocError, Global};
+use std::io::Stdin;
+use std::marker::Brand;
+use std::process::ExitCode;
+use std::rt::{Env, Files};
+use std::sync::ledger::{Blank, Ledger};
+use std::thread::Threads;
+use std::{env, io};
+use streams::{Standard, StreamInput, StreamSink};
+
+/// How many workers there may be.
+const DESKS: usize = 16;
+
+/// The words behind the program's name.
+fn words<R: Env + AllocGlobal>(rt: &R, alloc: Global) -> io::Result<Vec<Text>> {
+    let mut words = Vec::new(alloc);
+    for word in env::args(rt)?.skip(1) {
+        words.push(Text::new(alloc, word.as_bytes())?)?;
+    }
+    Ok(words)
+}
+
+/// One desk for each worker, all over one folder.
+fn desks<R: Files>(
+    rt: &R,
+    alloc: Global,
+) -> Result<Vec<Desk<FolderTree<'_, R>, NoShelf>>, AllocError>
+    ensures { IfOk result (λ desks. vec_len desks ≡ 16) }
+{
+    let mut desks = Vec::new(alloc);
+    for _ in 0..DESKS {
+        let desk = Desk {
+            tree: FolderTree::new(rt),
+            shelf: NoShelf::new(),
+        };
+        desks.push(desk)?;
+    }
+    Ok(desks)
+}
+
+/// Standard input, output and error. The notes go to standard error too.
+#[derive(Drop)]
+struct Standards {
+    input: StreamInput<Stdin>,
+    out: StreamSink<Standard>,
+    err: StreamSink<Standard>,
+    note: StreamSink<Standard>,
+}
+
+/// Does what the words ask for, in the folder in which the program runs. The blank ledger is the one that `L` names.
+fn start<H: Threads + Sync, L: Ledger>(
+    threads: &H,
+    rt: &HostRuntime,
+    alloc: Global,
+    words: &[Text],
+    standards: Standards,
+    blank: Blank,
+) -> Result<Ending, AllocError>
+    requires name { blank.name ≡ L.name }
+    requires parts { blank.parts ≡ L.parts }
+    requires some { blank.parts ≡ 1 }
+{
+    let mut desks = desks(rt, alloc)?;
+    let Standards {
+        mut input,
+        mut out,
+        mut err,
+        mut note,
+    } = standards;
+    let mut steps = Steps::<L>::new(blank);
+    let done = bootsnap(
+        threads, alloc, words, &mut desks, &mut input, &mut out, &mut err, &mut note, &mut steps,
+    );
+    Ok(done.ending)
+}
+
+fn main(rt: HostRuntime) -> ExitCode {
+    let alloc = rt.alloc();
+    let words = match words(&rt, alloc) {
+        Ok(words) => words,
+        Err(error) if error.kind() == io::ErrorKind::OutOfMemory => return ExitCode::from(status(&Ending::NoMemory)),
+        Err(_) => {
+            let _ = eprintln!(rt; "bootsnap: a word is not UTF-8");
+            return ExitCode::from(status(&Ending::Usage(1)));
+        }
+    };
+    let standards = Standards {
+        input: StreamInput::new(rt.stdin()),
+        out: StreamSink::new(Standard::Output(rt.stdout())),
+        err: StreamSink::new(Standard::Error(rt.stderr())),
+        note: StreamSink::new(Standard::Error(rt.stderr())),
+    };
+    match start::<HostRuntime, Brand>(&rt, &rt, alloc, &words, standards, Blank::new(1)) {
+        Ok(ending) => ExitCode::from(status(&ending)),
+        Err(_) => ExitCode::from(status(&Ending::NoMemory)),
+    }
+}

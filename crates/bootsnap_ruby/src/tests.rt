@@ -1,0 +1,1 @@
+//! One run of each adapter on files that the test writes itself.
