@@ -21,7 +21,7 @@ pub fn is_normal_path(text: &[u8]) -> bool
 pub fn is_segment(alloc: Global, name: &[u8]) -> Result<bool, NoMemory>
     ensures { IfOk result (λ answer. answer ≡ is_segment name.now) }
 {
-    if name.contains(&b'/') {
+    if name.is_empty() || name.contains(&b'/') {
         return Ok(false);
     }
     let mut path = Vec::from_slice(alloc, b"/")?;

@@ -1,6 +1,6 @@
 //! Which calls fail.
 ghost use Rattle.std.specs.Prelude.{◌≡◌, ◌+◌, ◌≤◌, true};
-ghost use Rattle.mem_outside.specs.Schedule.{fails_next, faults_of};
+ghost use Rattle.mem_outside.specs.Schedule.{after_call, fails_next, faults_of};
 
 use std::alloc::Global;
 use std::marker::Model;
@@ -31,7 +31,7 @@ impl Script {
     /// Counts a call, and says whether it fails. Calls past the last number of 64 bits have none, and do not fail.
     pub fn next_fails(&mut self) -> bool
         ensures exact { result ≡ fails_next self.old }
-        ensures same { self.new.fail ≡ self.old.fail }
+        ensures called { self.new ≡ after_call self.old }
         ensures kept { faults_of self.old ≤ faults_of self.new }
         ensures rose { result ≡ true → faults_of self.old + 1 ≤ faults_of self.new }
     {

@@ -1,7 +1,7 @@
 //! Sinks that keep what they take.
 ghost use Rattle.std.specs.Prelude.{◌≡◌, ◌+◌, ◌<◌, ◌≤◌, ◌↔◌, List, ℕ, [], true, length, take, Some, IfOk, OnErr, IsErrOf};
 ghost use Rattle.bs_outside.specs.Told.{added, AddsPrefix, Rose};
-ghost use Rattle.mem_outside.specs.Schedule.{fails_next, faults_of};
+ghost use Rattle.mem_outside.specs.Schedule.{after_call, fails_next, faults_of};
 
 use crate::Script;
 use bs_outside::{Sink, SinkFault};
@@ -56,6 +56,7 @@ impl Sink for MemSink {
         ensures counted { faults_of self.old.schedule ≤ faults_of self.new.schedule }
         ensures failed { IsErrOf result SinkFault.Failed → Rose (faults_of self.old.schedule) (faults_of self.new.schedule) }
         ensures exact { IsErrOf result SinkFault.Failed ↔ fails_next self.old.schedule ≡ true }
+        ensures called { self.new.schedule ≡ after_call self.old.schedule }
     {
         if self.script.next_fails() {
             return Err(SinkFault::Failed);

@@ -6,7 +6,7 @@ ghost use Rattle.std.specs.FinMap as map;
 ghost use Rattle.bs_outside.specs.Paths.{is_segment};
 ghost use Rattle.bs_outside.specs.SourceTree.{stat_at, list_at, bytes_at, IsSourceTree};
 ghost use Rattle.mem_outside.specs.TreeLists.{map_of, is_tree_list};
-ghost use Rattle.mem_outside.specs.Schedule.{fails_next, faults_of};
+ghost use Rattle.mem_outside.specs.Schedule.{after_call, fails_next, faults_of};
 
 use crate::{Files, Script};
 use bs_outside::{Bytes, Item, Items, Listing, NoMemory, Stat, Text, Texts, Tree, TreeFault};
@@ -105,6 +105,7 @@ impl Tree for MemTree {
         ensures counted { faults_of self.old.script ≤ faults_of self.new.script }
         ensures failed { IsErrOf result TreeFault.Failed → Rose (faults_of self.old.script) (faults_of self.new.script) }
         ensures exact { IsErrOf result TreeFault.Failed ↔ fails_next self.old.script ≡ true }
+        ensures called { self.new.script ≡ after_call self.old.script }
     {
         if self.script.next_fails() {
             return Err(TreeFault::Failed);
@@ -126,6 +127,7 @@ impl Tree for MemTree {
         ensures counted { faults_of self.old.script ≤ faults_of self.new.script }
         ensures failed { IsErrOf result TreeFault.Failed → Rose (faults_of self.old.script) (faults_of self.new.script) }
         ensures exact { IsErrOf result TreeFault.Failed ↔ fails_next self.old.script ≡ true }
+        ensures called { self.new.script ≡ after_call self.old.script }
     {
         if self.script.next_fails() {
             return Err(TreeFault::Failed);
@@ -149,6 +151,7 @@ impl Tree for MemTree {
         ensures counted { faults_of self.old.script ≤ faults_of self.new.script }
         ensures failed { IsErrOf result TreeFault.Failed → Rose (faults_of self.old.script) (faults_of self.new.script) }
         ensures exact { IsErrOf result TreeFault.Failed ↔ fails_next self.old.script ≡ true }
+        ensures called { self.new.script ≡ after_call self.old.script }
     {
         if self.script.next_fails() {
             return Err(TreeFault::Failed);
