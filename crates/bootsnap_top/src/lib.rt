@@ -8,6 +8,8 @@ mod files;
 mod planning;
 mod running;
 mod sums;
+#[cfg(test)]
+mod tests;
 mod top;
 
 pub use desks::Desk;

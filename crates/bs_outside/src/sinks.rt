@@ -45,7 +45,8 @@ pub fn put_all<S: Sink>(alloc: Global, sink: &mut S, bytes: &[u8]) -> Result<(),
 /// How many bytes are gathered before they are sent.
 const PIECE: usize = 8192;
 
-/// Bytes that are still owed to a sink: small pieces are gathered, so that a sink is given few large ones.
+/// Bytes that are still owed to a sink: small pieces are gathered, so that a sink is given few large ones. After an error some of them
+/// may have been taken, so they are not to be sent again.
 #[derive(Drop, Debug)]
 pub struct Gathered {
     bytes: Vec<u8>,

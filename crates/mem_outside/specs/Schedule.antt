@@ -14,7 +14,7 @@ fails_next s = nat_lt (s.calls + 1) (2 ^ 64) && list_any (λ k. k == (s.calls + 
 abbrev pub after_call : Schedule → Schedule
 after_call s = record { fail = s.fail; calls = min (s.calls + 1) (2 ^ 64 - 1) }
 
--- how many calls failed so far
+-- how many numbers of the list are reached: the calls that failed so far, where each number stands once
 abbrev pub faults_of : Schedule → ℕ
 faults_of s = count_by (λ k. nat_le k s.calls) s.fail
 

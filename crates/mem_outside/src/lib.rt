@@ -6,6 +6,8 @@ mod inputs;
 mod script;
 mod shelves;
 mod sinks;
+#[cfg(test)]
+mod tests;
 mod trees;
 mod unread;
 

@@ -1,0 +1,238 @@
+//! The top call over the outside in memory.
+ghost use Rattle.std.specs.Prelude.{◌≡◌};
+
+use crate::{Desk, bootsnap, status};
+use bs_outside::{Bytes, NoMemory, Steps, Text};
+use mem_outside::{MemItem, MemSink, MemTree, NoShelf, SureInput};
+use std::alloc::Global;
+use std::marker::Brand;
+use std::sync::ledger::{Blank, Ledger};
+use std::thread::Threads;
+
+/// What a call left.
+#[derive(Drop)]
+struct Left {
+    status: u8,
+    output: MemSink,
+    errors: MemSink,
+    stats: usize,
+    reads: usize,
+}
+
+/// A tree of this file alone, whose calls with these numbers fail.
+fn tree_of(alloc: Global, text: Option<&[u8]>, fail: u64) -> Result<Option<MemTree>, NoMemory> {
+    let mut items = Vec::new(alloc);
+    items.push((Text::new(alloc, b"/")?, MemItem::Dir(1)))?;
+    if let Some(text) = text {
+        let main = MemItem::File(Bytes::new(alloc, text)?, 100);
+        items.push((Text::new(alloc, b"/main.rb")?, main))?;
+    }
+    MemTree::new(alloc, items, vec![in alloc; fail]?)
+}
+
+fn words_of(alloc: Global, words: &[&str]) -> Result<Vec<Text>, NoMemory> {
+    let mut texts = Vec::new(alloc);
+    for word in words {
+        texts.push(Text::new(alloc, word.as_bytes())?)?;
+    }
+    Ok(texts)
+}
+
+/// One call over one desk. The tree's call and the sinks' calls with these numbers, counted from 1, fail.
+fn call<H: Threads + Sync, L: Ledger>(
+    threads: &H,
+    alloc: Global,
+    words: &[&str],
+    text: Option<&[u8]>,
+    fail: [u64; 3],
+    blank: Blank,
+) -> Result<Option<Left>, NoMemory>
+    requires name { blank.name ≡ L.name }
+    requires parts { blank.parts ≡ L.parts }
+    requires some { blank.parts ≡ 1 }
+{
+    let [tree, out, err] = fail;
+    let Some(tree) = tree_of(alloc, text, tree)? else {
+        return Ok(None);
+    };
+    let mut desks = [Desk {
+        tree,
+        shelf: NoShelf::new(),
+    }];
+    let words = words_of(alloc, words)?;
+    let mut input = SureInput::new(Bytes::new(alloc, b"")?);
+    let mut output = MemSink::new(alloc, vec![in alloc; out]?);
+    let mut errors = MemSink::new(alloc, vec![in alloc; err]?);
+    let mut note = MemSink::new(alloc, Vec::new(alloc));
+    let mut steps = Steps::<L>::new(blank);
+    let done = bootsnap(
+        threads,
+        alloc,
+        &words,
+        &mut desks,
+        &mut input,
+        &mut output,
+        &mut errors,
+        &mut note,
+        &mut steps,
+    );
+    let [desk] = &desks;
+    Ok(Some(Left {
+        status: status(&done.ending),
+        output,
+        errors,
+        stats: desk.tree.stats().len(),
+        reads: desk.tree.reads().len(),
+    }))
+}
+
+#[test]
+fn small_files_run(rt: HostRuntime) -> anyhow::Result<()> {
+    let alloc = rt.alloc();
+    for (text, number, output, errors) in [
+        ("puts 2 + 3\n", 0, "5\n", ""),
+        ("puts 2 + 3", 0, "5\n", ""),
+        ("", 0, "", ""),
+        ("\n\nputs 0\n", 0, "0\n", ""),
+        ("puts 10 - 3 - 4\n", 0, "3\n", ""),
+        ("puts 3 - 10\n", 0, "-7\n", ""),
+        ("x = 1\nx = x + x\ny = x + x - 1\nputs y\n", 0, "3\n", ""),
+        ("puts \"a b ~!'\"\n", 0, "a b ~!'\n", ""),
+        ("puts \"\"", 0, "\n", ""),
+        ("puts 9223372036854775807\n", 0, "9223372036854775807\n", ""),
+        (
+            "puts 0 - 9223372036854775807 - 1\n",
+            0,
+            "-9223372036854775808\n",
+            "",
+        ),
+        (
+            "x = 9223372036854775807\nputs x + 1\n",
+            1,
+            "",
+            "/main.rb:2: integer out of range (RangeError)\n",
+        ),
+        (
+            "puts 1\n\nx = 0 - 9223372036854775807 - 2\nputs 2",
+            1,
+            "1\n",
+            "/main.rb:3: integer out of range (RangeError)\n",
+        ),
+        ("puts 2 * 3\n", 207, "", ""),
+        ("puts 01\n", 207, "", ""),
+        ("puts 9223372036854775808\n", 207, "", ""),
+        ("puts  1\n", 207, "", ""),
+        ("puts 1 \n", 207, "", ""),
+        ("puts 1 +\n", 207, "", ""),
+        ("puts -1\n", 207, "", ""),
+        ("puts x\nx = 1\n", 207, "", ""),
+        ("x = x\n", 207, "", ""),
+        ("end = 1\n", 207, "", ""),
+        ("puts = 1\n", 207, "", ""),
+        ("X = 1\n", 207, "", ""),
+        ("_x9 = 1\nputs _x9", 0, "1\n", ""),
+        ("puts \"a#b\"\n", 207, "", ""),
+        ("puts \"a\\n\"\n", 207, "", ""),
+        ("puts\n", 207, "", ""),
+        ("puts 1\r\n", 207, "", ""),
+    ] {
+        let left = call::<HostRuntime, Brand>(
+            &rt,
+            alloc,
+            &["run", "main.rb"],
+            Some(text.as_bytes()),
+            [0, 0, 0],
+            Blank::new(1),
+        )?;
+        let left = left.expect(&rt, "a source tree");
+        assert_eq!(rt; left.status, number, "{text}");
+        assert!(rt; left.output.bytes() == output.as_bytes(), "{text}");
+        assert!(rt; left.errors.bytes() == errors.as_bytes(), "{text}");
+        assert!(rt; left.stats == 1 && left.reads == 1);
+    }
+    Ok(())
+}
+
+#[test]
+fn words_and_faults(rt: HostRuntime) -> anyhow::Result<()> {
+    let alloc = rt.alloc();
+    let text = Some(b"puts 1\nputs 2".as_slice());
+    for (words, file, fail, number, output, errors) in [
+        (
+            ["run", "main.rb"].as_slice(),
+            None,
+            [0, 0, 0],
+            1,
+            "",
+            "cannot load such file -- /main.rb (LoadError)\n",
+        ),
+        (
+            ["run", "."].as_slice(),
+            None,
+            [0, 0, 0],
+            1,
+            "",
+            "cannot load such file -- / (LoadError)\n",
+        ),
+        (
+            ["run", "lib/../main.rb"].as_slice(),
+            text,
+            [0, 0, 0],
+            0,
+            "1\n2\n",
+            "",
+        ),
+        (
+            [].as_slice(),
+            text,
+            [0, 0, 0],
+            200,
+            "",
+            "bootsnap: word 1\n",
+        ),
+        (
+            ["walk"].as_slice(),
+            text,
+            [0, 0, 0],
+            200,
+            "",
+            "bootsnap: word 1\n",
+        ),
+        (
+            ["run"].as_slice(),
+            text,
+            [0, 0, 0],
+            200,
+            "",
+            "bootsnap: word 2\n",
+        ),
+        (
+            ["run", "-x"].as_slice(),
+            text,
+            [0, 0, 0],
+            200,
+            "",
+            "bootsnap: word 2\n",
+        ),
+        (
+            ["run", "main.rb", "a"].as_slice(),
+            text,
+            [0, 0, 0],
+            200,
+            "",
+            "bootsnap: word 3\n",
+        ),
+        (["run", "main.rb"].as_slice(), text, [1, 0, 0], 203, "", ""),
+        (["run", "main.rb"].as_slice(), text, [2, 0, 0], 203, "", ""),
+        (["run", "main.rb"].as_slice(), text, [0, 1, 0], 205, "", ""),
+        (["run", "main.rb"].as_slice(), None, [0, 0, 1], 205, "", ""),
+        (["run"].as_slice(), text, [0, 0, 1], 205, "", ""),
+    ] {
+        let left = call::<HostRuntime, Brand>(&rt, alloc, words, file, fail, Blank::new(1))?;
+        let left = left.expect(&rt, "a source tree");
+        assert_eq!(rt; left.status, number);
+        assert!(rt; left.output.bytes() == output.as_bytes());
+        assert!(rt; left.errors.bytes() == errors.as_bytes());
+    }
+    Ok(())
+}
