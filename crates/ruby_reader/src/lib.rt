@@ -4,6 +4,8 @@
 mod lines;
 mod reading;
 mod sums;
+#[cfg(test)]
+mod tests;
 mod tree;
 mod words;
 
