@@ -92,7 +92,9 @@ fn main(rt: HostRuntime) -> ExitCode {
     let alloc = rt.alloc();
     let words = match words(&rt, alloc) {
         Ok(words) => words,
-        Err(error) if error.kind() == io::ErrorKind::OutOfMemory => return ExitCode::from(status(&Ending::NoMemory)),
+        Err(error) if error.kind() == io::ErrorKind::OutOfMemory => return ExitCode::from(status(
+            &Ending::NoMemory,
+        )),
         Err(_) => {
             let _ = eprintln!(rt; "bootsnap: a word is not UTF-8");
             return ExitCode::from(status(&Ending::Usage(1)));
