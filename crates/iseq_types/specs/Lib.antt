@@ -1,1 +1,11 @@
 pub mod Index
+pub mod Instructions
+pub mod Ways
+pub mod Catch
+pub mod Sound
+pub mod Slots
+pub mod Furthest
+pub mod Throws
+pub mod Spans
+pub mod Depths
+pub mod Groups

@@ -82,3 +82,107 @@ pub enum Instr {
     /// The first so many values of an array, the first on top.
     ExpandArray(u64),
 }
+
+impl Instr {
+    ghost use Rattle.std.specs.Prelude.{◌≡◌, ◌<◌, ◌≤◌, ◌^◌};
+    ghost use Rattle.iseq_types.specs.Instructions.{takes_of, leaves_of, needs_of, target_of, goes_on, is_ending};
+
+    /// How many values it takes off the stack.
+    pub(crate) fn takes(&self) -> u128
+        ensures { result ≡ takes_of self.now }
+    {
+        match self {
+            Instr::AdjustStack(count)
+            | Instr::NewArray(count, _)
+            | Instr::NewHash(count)
+            | Instr::ConcatStrings(count)
+            | Instr::InvokeBlock(count, _) => *count as u128,
+            Instr::Send(_, count, _, flags, _) | Instr::InvokeSuper(count, _, flags, _) => {
+                1 + *count as u128 + (*flags / 2 % 2) as u128
+            }
+            Instr::OptGetConstantPath(2, _) => 1,
+            Instr::Throw(0) => 0,
+            Instr::Pop
+            | Instr::SetLocal(..)
+            | Instr::SetInstanceVariable(_)
+            | Instr::SetGlobal(_)
+            | Instr::SetConstant(_)
+            | Instr::ObjToString
+            | Instr::DefineClass(..)
+            | Instr::BranchIf(_)
+            | Instr::BranchUnless(_)
+            | Instr::BranchNil(_)
+            | Instr::Throw(_)
+            | Instr::Leave
+            | Instr::ExpandArray(_) => 1,
+            Instr::Swap | Instr::NewRange(_) | Instr::AnyToString | Instr::CheckMatch => 2,
+            _ => 0,
+        }
+    }
+
+    /// How many values it puts on the stack after that.
+    pub(crate) fn leaves(&self) -> u128
+        ensures count { result ≡ leaves_of self.now }
+        ensures small { result < 2 ^ 64 }
+    {
+        match self {
+            Instr::ExpandArray(count) => *count as u128,
+            Instr::Swap => 2,
+            Instr::Throw(0)
+            | Instr::Nop
+            | Instr::Pop
+            | Instr::SetN(_)
+            | Instr::AdjustStack(_)
+            | Instr::SetLocal(..)
+            | Instr::SetInstanceVariable(_)
+            | Instr::SetGlobal(_)
+            | Instr::SetConstant(_)
+            | Instr::DefineMethod(..)
+            | Instr::Jump(_)
+            | Instr::BranchIf(_)
+            | Instr::BranchUnless(_)
+            | Instr::BranchNil(_)
+            | Instr::Leave => 0,
+            _ => 1,
+        }
+    }
+
+    /// How many values have to be on the stack.
+    pub(crate) fn needs(&self) -> u128
+        ensures count { result ≡ needs_of self.now }
+        ensures taken { takes_of self.now ≤ result }
+    {
+        match self {
+            Instr::Dup => 1,
+            Instr::TopN(below) | Instr::SetN(below) => *below as u128 + 1,
+            _ => self.takes(),
+        }
+    }
+
+    /// Where it may jump to.
+    pub(crate) fn target(&self) -> Option<u64>
+        ensures { result ≡ target_of self.now }
+    {
+        match self {
+            Instr::Jump(target)
+            | Instr::BranchIf(target)
+            | Instr::BranchUnless(target)
+            | Instr::BranchNil(target) => Some(*target),
+            _ => None,
+        }
+    }
+
+    /// Whether it leads to the instruction after it.
+    pub(crate) fn goes_on(&self) -> bool
+        ensures { result ≡ goes_on self.now }
+    {
+        !matches!(self, Instr::Jump(_) | Instr::Throw(0) | Instr::Leave)
+    }
+
+    /// Whether a body may end with it.
+    pub(crate) fn is_ending(&self) -> bool
+        ensures { result ≡ is_ending self.now }
+    {
+        matches!(self, Instr::Jump(_) | Instr::Throw(_) | Instr::Leave)
+    }
+}

@@ -1,8 +1,20 @@
 //! Compiled sequences of instructions, the check that a body is sound, and the search in its catch rows.
 #![tactic(auto)]
 
+mod catch;
+mod check;
+mod depths;
 mod instructions;
+mod locals;
+mod operands;
 mod sequences;
+mod shape;
+mod spans;
+#[cfg(test)]
+mod tests;
+mod throws;
 
+pub use catch::find_catch;
+pub use check::{Sound, check_body};
 pub use instructions::{Instr, Literal};
 pub use sequences::{CatchKind, CatchRow, IndexRow, Line, SeqKind, Sequence, Unit};

@@ -1,0 +1,11 @@
+pub mod Elements
+pub mod Ends
+pub mod Outward
+pub mod Throwing
+pub mod Narrowing
+pub mod Reaching
+pub mod Answering
+pub mod Stepping
+pub mod Searching
+pub mod Keeping
+pub mod Whole

@@ -1,0 +1,42 @@
+use Rattle.std.proofs.Common.{List, get_or, IsTrue, refl, sym, subst, All}
+use Rattle.iseq_types.specs.declared.sequences.IndexRow.{IndexRow}
+use Rattle.iseq_types.specs.declared.sequences.Line.{Line}
+use Rattle.iseq_types.specs.declared.sequences.SeqKind.TheVariants.{File}
+use Rattle.iseq_types.specs.Sound.{FindsLocal}
+use Rattle.iseq_types.proofs.Whole.{kind_read, sound_by, sound_throws, sound_depths}
+use Rattle.iseq_types.proofs.check.check_body.Goals as goal
+use Rattle.iseq_types.proofs.check.check_body.Goals.{then-not-branch-via-then-not-branch, then-not-branch-via-else-not-branch+in_ok-throws_are_right+then-not-branch-2, then-not-branch-via-else-not-branch+in_ok-throws_are_right+else-not-branch-2+in_ok-depths_are_kept+then-not-branch-3}
+
+pub returns-then-not-branch-clause-unsound : goal.returns-then-not-branch-clause-unsound
+returns-then-not-branch-clause-unsound c =
+    let d : IndexRow = record { kind = File; parent = 0; locals = 0 } in
+    let seq = c.args.seq.now in
+    let rows = c.args.rows.now in
+    let id = c.args.id in
+    let kind = (get_or rows id d).kind in
+    let e = kind_read rows id d c.requires.below in
+    λ sound. elim c.then-not-branch.branch [
+      | then-not-branch-via-then-not-branch w ↦
+          let all : IsTrue c.in_ok-locals_exist.field-0 = c.in_ok-locals_exist.ensures.1 (subst (λ (code : List Line). All (λ line. FindsLocal rows id line.instr) code) (sym c.as_slice-code.ensures) sound.locals) in
+          let no' = w.if-not-branch.true in
+          cc (all, no')
+      | then-not-branch-via-else-not-branch+in_ok-throws_are_right+then-not-branch-2 w ↦
+          let all : IsTrue w.in_ok-throws_are_right.field-0 = w.in_ok-throws_are_right.ensures.1 (sound_throws seq rows id kind e sound) in
+          let no' = w.if-not-branch-2.true in
+          cc (all, no')
+      | then-not-branch-via-else-not-branch+in_ok-throws_are_right+else-not-branch-2+in_ok-depths_are_kept+then-not-branch-3 w ↦
+          let all : IsTrue w.in_ok-depths_are_kept.field-0 = w.in_ok-depths_are_kept.ensures.1 (sound_depths seq rows id kind e sound) in
+          let no' = w.if-not-branch-3.true in
+          cc (all, no')
+    ]
+
+pub returns-clause-sound : goal.returns-clause-sound
+returns-clause-sound c =
+    let d : IndexRow = record { kind = File; parent = 0; locals = 0 } in
+    let seq = c.args.seq.now in
+    let rows = c.args.rows.now in
+    let id = c.args.id in
+    let kind = (get_or rows id d).kind in
+    let e = kind_read rows id d c.requires.below in
+    let locals = subst (λ (code : List Line). All (λ line. FindsLocal rows id line.instr) code) c.as_slice-code.ensures (c.in_ok-locals_exist.ensures.0 c.if-not-branch.false) in
+    sound_by seq rows id kind e (c.if-not-has_shape.ensures.0 refl) (c.if-not-has_right_operands.ensures.0 refl) locals (c.in_ok-throws_are_right.ensures.0 c.if-not-branch-2.false) (c.in_ok-depths_are_kept.ensures.0 c.if-not-branch-3.false)
