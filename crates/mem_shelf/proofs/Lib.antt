@@ -1,0 +1,4 @@
+pub mod Counting
+pub mod LastOf
+pub mod Joining
+pub mod Partly

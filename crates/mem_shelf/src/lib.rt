@@ -1,0 +1,10 @@
+//! A folder of cache files in memory, with others that write to it, calls that fail and short appends.
+#![tactic(auto)]
+
+mod drafts;
+mod folder;
+mod lists;
+mod script;
+
+pub use folder::Folder;
+pub use script::Script;
