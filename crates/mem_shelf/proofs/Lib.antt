@@ -2,3 +2,4 @@ pub mod Counting
 pub mod LastOf
 pub mod Joining
 pub mod Partly
+pub mod Latest

@@ -1,4 +1,4 @@
-use Rattle.std.specs.Prelude.{◌≡◌, ℕ, ◌+◌, ◌^◌, ◌==◌, nat_lt, min, Bool, if◌then◌else◌, List, [], ◌∷◌, ◌++◌, length, take, map, get_or, set, Option, None}
+use Rattle.std.specs.Prelude.{◌≡◌, ℕ, ◌+◌, ◌^◌, ◌==◌, nat_lt, min, Bool, if◌then◌else◌, List, [], ◌∷◌, ◌++◌, length, take, map, get_or, set, Option, None, is_some}
 use Rattle.bs_outside.specs.Cache.{CacheItem, last_of}
 use Rattle.bs_outside.specs.History.{History}
 use Rattle.bs_outside.specs.declared.names.CacheName.{CacheName}
@@ -79,3 +79,11 @@ renamed kept temp name = record (arrived kept) {
 abbrev pub NamesOnce : List CacheItem → Type 0
 NamesOnce [] = Unit {0}
 NamesOnce (item ∷ items) = (last_of items item.0 ≡ None) × NamesOnce items
+
+abbrev pub is_named : List CacheItem → CacheName → Bool
+is_named items name = is_some (last_of items name)
+
+-- Those of the items that are the last of their names, where these others come after them.
+abbrev pub latest : List CacheItem → List CacheItem → List CacheItem
+latest [] after = []
+latest (item ∷ items) after = if is_named (items ++ after) item.0 then latest items after else item ∷ latest items after

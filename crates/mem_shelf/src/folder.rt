@@ -3,10 +3,11 @@ ghost use Rattle.std.specs.Prelude.{◌≡◌, ◌<◌, ◌++◌, ◌∷◌, [],
 ghost use Rattle.bs_outside.specs.Cache.{last_of, now_of};
 ghost use Rattle.bs_outside.specs.History.{loaded_of};
 ghost use Rattle.bs_outside.specs.declared.names.Loaded.TheVariants as answer;
-ghost use Rattle.mem_shelf.specs.Keeping.{arrived, ArrivesPartly, RenamesPartly, loaded, begun, appended, renamed};
+ghost use Rattle.mem_shelf.specs.Keeping.{arrived, ArrivesPartly, RenamesPartly, loaded, begun, appended, renamed, NamesOnce};
+ghost use Rattle.bs_outside.specs.declared.names.CacheName.{CacheName};
 
 use crate::drafts::Draft;
-use crate::lists::{CacheFile, Guest, join, put_last, stands};
+use crate::lists::{CacheFile, Guest, join, put_last, put_latest, stands};
 use bs_outside::{Bytes, CacheName, Image, Loaded, Temp};
 use std::alloc::{AllocError, Global};
 use std::marker::Model;
@@ -155,5 +156,34 @@ impl Folder {
         let draft = &mut self.temps[temp.number()];
         let bytes = draft.take(alloc);
         put_last(&mut self.past, &mut self.own, (*name, bytes))
+    }
+
+    /// The files at the start and those renamed since that are the last of their names.
+    pub(crate) fn left(&self, alloc: Global) -> Result<Vec<CacheFile>, AllocError>
+        ensures stands { IfOk result (λ files. (name : CacheName) → last_of files.items name ≡ now_of (last_of self.now.start) self.now.past name) }
+        ensures once { IfOk result (λ files. NamesOnce files.items) }
+    {
+        let mut files = Vec::new(alloc);
+        put_latest(alloc, &self.start, &self.past, &mut files)?;
+        put_latest(alloc, &self.past, &[], &mut files)?;
+        Ok(files)
+    }
+
+    pub(crate) fn past(&self) -> &[CacheFile]
+        ensures { result.now ≡ self.now.past }
+    {
+        &self.past
+    }
+
+    pub(crate) fn own(&self) -> &[usize]
+        ensures { result.now ≡ self.now.own }
+    {
+        &self.own
+    }
+
+    pub(crate) fn loads(&self) -> &[(CacheName, Loaded)]
+        ensures { result.now ≡ self.now.loads }
+    {
+        &self.loads
     }
 }

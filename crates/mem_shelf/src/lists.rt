@@ -2,7 +2,7 @@
 ghost use Rattle.std.specs.Prelude.{◌≡◌, ◌++◌, ◌∷◌, [], ℕ, length, take, IfOk, OnOk, OnErr};
 ghost use Rattle.std.specs.Option.{option_copied};
 ghost use Rattle.bs_outside.specs.Cache.{last_of, now_of};
-ghost use Rattle.mem_shelf.specs.Keeping.{due_at};
+ghost use Rattle.mem_shelf.specs.Keeping.{due_at, is_named, latest};
 
 use bs_outside::{Bytes, CacheName, is_same_name};
 use std::alloc::{AllocError, Global};
@@ -85,6 +85,46 @@ pub(crate) fn put_last(
     if past.push(file).is_err() {
         own.pop();
         return Err(AllocError);
+    }
+    Ok(())
+}
+
+// Whether one of these files, or of those after them, has the name.
+fn is_named(files: &[CacheFile], after: &[CacheFile], name: &CacheName) -> bool
+    ensures { result ≡ is_named (files.now ++ after.now) name.now }
+{
+    last_of(files, name).is_some() || last_of(after, name).is_some()
+}
+
+// A copy of a file joins, unless a later one has its name.
+fn put_latest_one(
+    alloc: Global,
+    file: &CacheFile,
+    later: &[CacheFile],
+    after: &[CacheFile],
+    files: &mut Vec<CacheFile>,
+) -> Result<(), AllocError>
+    ensures { OnOk result (files.new.items ≡ files.old.items ++ latest (file.now ∷ []) (later.now ++ after.now)) }
+{
+    if !is_named(later, after, &file.0) {
+        files.push((file.0, Bytes::new(alloc, file.1.as_slice())?))?;
+    }
+    Ok(())
+}
+
+/// Copies of the items of which no later one, and none of those after them, has the name.
+pub(crate) fn put_latest(
+    alloc: Global,
+    items: &[CacheFile],
+    after: &[CacheFile],
+    files: &mut Vec<CacheFile>,
+) -> Result<(), AllocError>
+    ensures { OnOk result (files.new.items ≡ files.old.items ++ latest items.now after.now) }
+{
+    let mut rest = items;
+    while let Some((file, later)) = rest.split_first() {
+        put_latest_one(alloc, file, later, after, files)?;
+        rest = later;
     }
     Ok(())
 }
