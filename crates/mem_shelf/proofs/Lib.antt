@@ -3,3 +3,4 @@ pub mod LastOf
 pub mod Joining
 pub mod Partly
 pub mod Latest
+pub mod Tells

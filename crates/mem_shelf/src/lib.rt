@@ -5,6 +5,8 @@ mod drafts;
 mod folder;
 mod lists;
 mod script;
+mod shelves;
 
 pub use folder::Folder;
 pub use script::Script;
+pub use shelves::MemShelf;
