@@ -9,4 +9,4 @@ mod shelves;
 
 pub use folder::Folder;
 pub use script::Script;
-pub use shelves::MemShelf;
+pub use shelves::{MemShelf, SureShelf};

@@ -157,3 +157,122 @@ impl Shelf for MemShelf {
         Ok(self.folder.rename(alloc, temp, name)?)
     }
 }
+
+/// A shelf whose calls do not fail.
+#[derive(Drop, Debug)]
+pub struct SureShelf {
+    folder: Folder,
+}
+
+impl SureShelf {
+    /// No call was made. Of several files of one name in `start` the last counts. What a guest renames comes just before the call with
+    /// the guest's number, counted from 1, and one append takes at most `bite` bytes.
+    pub fn new(
+        alloc: Global,
+        start: Vec<(CacheName, Bytes)>,
+        guests: Vec<(u64, CacheName, Bytes)>,
+        bite: usize,
+    ) -> SureShelf
+        requires { 0 < bite }
+        ensures { result.folder ≡ record { start = start.items; guests = guests.items; bite = bite; calls = 0; past = []; own = []; loads = []; temps = [] } }
+    {
+        SureShelf {
+            folder: Folder::new(alloc, start, guests, bite),
+        }
+    }
+
+    /// What was renamed since the opening, by anybody.
+    pub fn past(&self) -> &[(CacheName, Bytes)]
+        ensures { result.now ≡ (history_of self.now.folder).past }
+    {
+        self.folder.past()
+    }
+
+    /// The places in `past` of this object's renames.
+    pub fn own(&self) -> &[usize]
+        ensures { result.now ≡ (history_of self.now.folder).own }
+    {
+        self.folder.own()
+    }
+
+    /// Each load so far, with its answer.
+    pub fn loads(&self) -> &[(CacheName, Loaded)]
+        ensures { result.now ≡ (history_of self.now.folder).loads }
+    {
+        self.folder.loads()
+    }
+
+    /// The cache that stands now, each name once.
+    pub fn left(&self, alloc: Global) -> Result<Vec<(CacheName, Bytes)>, NoMemory>
+        ensures stands { IfOk result (λ files. (name : CacheName) → last_of files.items name ≡ now_of (last_of self.now.folder.start) self.now.folder.past name) }
+        ensures once { IfOk result (λ files. NamesOnce files.items) }
+    {
+        self.folder.left(alloc)
+    }
+}
+
+impl Shelf for SureShelf {
+    ghost tells = { true };
+
+    ghost history = { λ m. history_of m.folder };
+
+    ghost faults = { λ m. 0 };
+
+    ghost begun = { λ m. length m.folder.temps };
+
+    fn load(&mut self, alloc: Global, name: &CacheName) -> Result<Option<Image>, ShelfFault>
+        ensures since { Since (history_of self.old.folder) (history_of self.new.folder) [] (loaded_by name.now result) }
+        ensures bytes { IfOk result (λ image. image ≡ now_of (last_of self.new.folder.start) self.new.folder.past name.now) }
+        ensures temps { KeepsTemps (length self.old.folder.temps) (history_of self.old.folder) (history_of self.new.folder) }
+        ensures begun { length self.new.folder.temps ≡ length self.old.folder.temps }
+        ensures cause { HasCause 0 0 result }
+        ensures sure { IsErrOf result ShelfFault.Failed → ⊥ }
+        ensures acts { IfOk result (λ image. self.new.folder ≡ loaded self.old.folder name.now (loaded_of image)) }
+    {
+        Ok(self.folder.load(alloc, name)?)
+    }
+
+    fn begin(&mut self, alloc: Global, _name: &CacheName) -> Result<Temp, ShelfFault>
+        ensures since { Since (history_of self.old.folder) (history_of self.new.folder) [] [] }
+        ensures empty { IfOk result (λ temp. (history_of self.new.folder).temps temp ≡ []) }
+        ensures temps { KeepsTemps (length self.old.folder.temps) (history_of self.old.folder) (history_of self.new.folder) }
+        ensures fresh { IfOk result (λ temp. (length self.old.folder.temps ≤ temp) × (temp < length self.new.folder.temps)) }
+        ensures begun { length self.old.folder.temps ≤ length self.new.folder.temps }
+        ensures cause { HasCause 0 0 result }
+        ensures sure { IsErrOf result ShelfFault.Failed → ⊥ }
+        ensures acts { OnOk result (self.new.folder ≡ begun self.old.folder) }
+    {
+        Ok(self.folder.begin(alloc)?)
+    }
+
+    fn append(&mut self, alloc: Global, temp: &Temp, piece: &[u8]) -> Result<usize, ShelfFault>
+        requires { temp.now < length self.old.folder.temps }
+        ensures since { Since (history_of self.old.folder) (history_of self.new.folder) [] [] }
+        ensures added { IfOk result (λ n. (history_of self.new.folder).temps temp.now ≡ (history_of self.old.folder).temps temp.now ++ take n piece.now) }
+        ensures temps { KeepsOtherTemps temp.now (history_of self.old.folder) (history_of self.new.folder) }
+        ensures within { IfOk result (λ n. n ≤ length piece.now) }
+        ensures some { IfOk result (λ n. 0 < length piece.now → 0 < n) }
+        ensures begun { length self.new.folder.temps ≡ length self.old.folder.temps }
+        ensures cause { HasCause 0 0 result }
+        ensures sure { IsErrOf result ShelfFault.Failed → ⊥ }
+        ensures bite { IfOk result (λ n. n ≡ min self.old.folder.bite (length piece.now)) }
+        ensures acts { IfOk result (λ n. self.new.folder ≡ appended self.old.folder temp.now (take n piece.now)) }
+    {
+        Ok(self.folder.append(alloc, temp, piece)?)
+    }
+
+    fn rename(&mut self, alloc: Global, temp: Temp, name: &CacheName) -> Result<(), ShelfFault>
+        requires { temp < length self.old.folder.temps }
+        ensures ok { OnOk result (
+            Since (history_of self.old.folder) (history_of self.new.folder) ((name.now, (history_of self.old.folder).temps temp) ∷ []) []
+            × IsLast (name.now, (history_of self.old.folder).temps temp) (history_of self.new.folder).past) }
+        ensures err { OnErr result (Since (history_of self.old.folder) (history_of self.new.folder) [] []) }
+        ensures temps { KeepsOtherTemps temp (history_of self.old.folder) (history_of self.new.folder) }
+        ensures begun { length self.new.folder.temps ≡ length self.old.folder.temps }
+        ensures cause { HasCause 0 0 result }
+        ensures sure { IsErrOf result ShelfFault.Failed → ⊥ }
+        ensures acts { OnOk result (self.new.folder ≡ renamed self.old.folder temp name.now) }
+    {
+        Ok(self.folder.rename(alloc, temp, name)?)
+    }
+}
