@@ -1,0 +1,3 @@
+pub mod Written
+pub mod LookUps
+pub mod EachMomentOf
