@@ -1,25 +1,11 @@
--- The last item of a name, of lists put together.
+-- Whether an item of a list has a name, and the last that has it.
 use Rattle.std.proofs.Common.{◌≡◌, Bool, true, false, ℕ, List, [], ◌∷◌, ◌++◌, length, Option, Some, None, is_some, ◌||◌, if◌then◌else◌, refl, sym, ◌∙◌, ap}
 use Rattle.std.specs.Borrow.{Bor}
 use Rattle.std.specs.Option.{option_copied}
 use Rattle.bs_outside.specs.Cache.{CacheItem, same_name, or_else, last_of}
 use Rattle.bs_outside.specs.declared.names.CacheName.{CacheName}
+use Rattle.atomic_files.proofs.LookUps.{last_of-append}
 use Rattle.mem_shelf.specs.Keeping.{is_named}
-
-or_else-none : (a : Option (List ℕ)) → or_else a None ≡ a
-or_else-none None = refl
-or_else-none (Some x) = refl
-
-or_else-assoc : (a b c : Option (List ℕ)) → or_else a (or_else b c) ≡ or_else (or_else a b) c
-or_else-assoc None b c = refl
-or_else-assoc (Some x) b c = refl
-
--- what the later list has comes first
-pub last_of-append : (xs ys : List CacheItem) (name : CacheName) → last_of (xs ++ ys) name ≡ or_else (last_of ys name) (last_of xs name)
-last_of-append [] ys name = sym (or_else-none (last_of ys name))
-last_of-append (x ∷ xs) ys name =
-    let here = if same_name x.0 name then Some x.1 else None in
-    ap (λ (o : Option (List ℕ)). or_else o here) (last_of-append xs ys name) ∙ sym (or_else-assoc (last_of ys name) (last_of xs name) here)
 
 -- a list ends in an item of this name
 pub last_of-here : (before all : List CacheItem) (item : CacheItem) (name : CacheName) → all ≡ before ++ item ∷ [] → same_name item.0 name ≡ true → last_of all name ≡ Some item.1

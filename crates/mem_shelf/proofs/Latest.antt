@@ -1,38 +1,10 @@
 -- The last items of each name.
 use Rattle.std.proofs.Common.{◌≡◌, Bool, true, false, ◌==◌, ℕ, List, [], ◌∷◌, ◌++◌, length, Option, Some, None, is_some, if◌then◌else◌, refl, sym, ◌∙◌, ap, subst, append_assoc}
 use Rattle.std.proofs.lemmas.List.{append-nil}
-use Rattle.std.proofs.lemmas.Bool.{eqb-true, and_parts}
-use Rattle.bs_outside.specs.Cache.{CacheItem, same_kind, same_name, or_else, last_of, now_of}
+use Rattle.bs_outside.specs.Cache.{CacheItem, same_name, or_else, last_of, now_of}
 use Rattle.bs_outside.specs.declared.names.CacheName.{CacheName}
-use Rattle.bs_outside.specs.declared.names.CacheKind.{CacheKind}
-use Rattle.bs_outside.specs.declared.names.CacheKind.TheVariants.{Iseq, Yaml, Json, LoadPath}
 use Rattle.mem_shelf.specs.Keeping.{Keeping, NamesOnce, is_named, latest}
-use Rattle.mem_shelf.proofs.LastOf.{last_of-append}
-
-same_kind-true : (a b : CacheKind) → same_kind a b ≡ true → a ≡ b
-same_kind-true Iseq Iseq is = refl
-same_kind-true Yaml Yaml is = refl
-same_kind-true Json Json is = refl
-same_kind-true LoadPath LoadPath is = refl
-same_kind-true Iseq Yaml is = cc
-same_kind-true Iseq Json is = cc
-same_kind-true Iseq LoadPath is = cc
-same_kind-true Yaml Iseq is = cc
-same_kind-true Yaml Json is = cc
-same_kind-true Yaml LoadPath is = cc
-same_kind-true Json Iseq is = cc
-same_kind-true Json Yaml is = cc
-same_kind-true Json LoadPath is = cc
-same_kind-true LoadPath Iseq is = cc
-same_kind-true LoadPath Yaml is = cc
-same_kind-true LoadPath Json is = cc
-
-pub same_name-true : (a b : CacheName) → same_name a b ≡ true → a ≡ b
-same_name-true a b is =
-    let parts = and_parts (same_kind a.kind b.kind) (a.hash == b.hash) is in
-    let kinds : a.kind ≡ b.kind = same_kind-true a.kind b.kind parts.0 in
-    let hashes : a.hash ≡ b.hash = eqb-true a.hash b.hash parts.1 in
-    λ i. record { kind = kinds i; hash = hashes i }
+use Rattle.atomic_files.proofs.LookUps.{same_name-true, last_of-append}
 
 if_more : (t : Bool) (x : CacheItem) (l a more : List CacheItem) → l ≡ a ++ more → (if t then l else x ∷ l) ≡ (if t then a else x ∷ a) ++ more
 if_more true x l a more is = is

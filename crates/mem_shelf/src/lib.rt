@@ -6,6 +6,8 @@ mod folder;
 mod lists;
 mod script;
 mod shelves;
+#[cfg(test)]
+mod tests;
 
 pub use folder::Folder;
 pub use script::Script;
