@@ -1,15 +1,15 @@
 -- Each moment of calls whose own items are known.
-use Rattle.std.proofs.Common.{◌≡◌, ◌⊎◌, inl, inr, ℕ, zero, suc, ◌+◌, ◌-◌, ◌≤◌, List, [], ◌∷◌, ◌++◌, length, take, Option, Some, None, Result, Ok, Err, OnOk, OnErr, refl, sym, ◌∙◌, ap, subst, arith}
+use Rattle.std.proofs.Common.{◌≡◌, ◌⊎◌, inl, inr, ℕ, zero, suc, ◌+◌, ◌-◌, List, [], ◌∷◌, ◌++◌, length, take, Option, Some, None, Result, Ok, Err, OnOk, OnErr, refl, sym, ◌∙◌, ap, subst, arith}
 use Rattle.std.proofs.lemmas.List.{take_at}
 use Rattle.std.proofs.Math.Seq.{take-append-add}
 use Rattle.std.specs.List.{AllByRecursion}
-use Rattle.bs_outside.specs.Cache.{CacheItem, Cache, or_else, last_of, now_of, IsOneOf, MayHold, MayCrashTo, IsMoment}
+use Rattle.bs_outside.specs.Cache.{CacheItem, Cache, or_else, last_of, now_of, IsOneOf, MayHold, IsMoment}
 use Rattle.bs_outside.specs.History.{History, Since, IsLast}
 use Rattle.bs_outside.specs.declared.names.Loaded.{Loaded}
 use Rattle.bs_outside.specs.declared.faults.ShelfFault.{ShelfFault}
 use Rattle.bs_outside.specs.declared.names.CacheName.{CacheName}
 use Rattle.bs_outside.proofs.Since.{all-one_of, all-mixed}
-use Rattle.atomic_files.specs.Moments.{IsWholeOrOld, EachMomentIsWhole, EachCrashIsKnown, EachMoment}
+use Rattle.atomic_files.specs.Moments.{IsWholeOrOld, EachMoment}
 use Rattle.atomic_files.proofs.LookUps.{last_of-append, last_of-one, one_of-left, one_of-right, one_of-append}
 
 all-take : (P : CacheItem → Type 0) (n : ℕ) (xs : List CacheItem) → AllByRecursion P xs → AllByRecursion P (take n xs)
@@ -51,13 +51,13 @@ moments_of old new joined own is all =
     let items = old.guests ++ own in
     record {
       whole = λ moment at name.
-      let front = take (length moment - length old.past) joined in
-      subst (λ (m : List CacheItem). IsWholeOrOld (now_of start old.past name) items name (now_of start m name)) (sym (moment_is old.past joined new.past moment is at))
-      (stands start old.past front items name (last_of front name) (all-take (λ x. IsOneOf x items) (length moment - length old.past) joined all) refl);
+          let front = take (length moment - length old.past) joined in
+          subst (λ (m : List CacheItem). IsWholeOrOld (now_of start old.past name) items name (now_of start m name)) (sym (moment_is old.past joined new.past moment is at))
+          (stands start old.past front items name (last_of front name) (all-take (λ x. IsOneOf x items) (length moment - length old.past) joined all) refl);
       crash = λ moment at cache may name.
-      let front = take (length moment - length old.past) joined in
-      known start old.past front items name (cache name) (all-take (λ x. IsOneOf x items) (length moment - length old.past) joined all)
-      (subst (λ (m : List CacheItem). MayHold start m name (cache name)) (moment_is old.past joined new.past moment is at) (may name));
+          let front = take (length moment - length old.past) joined in
+          known start old.past front items name (cache name) (all-take (λ x. IsOneOf x items) (length moment - length old.past) joined all)
+          (subst (λ (m : List CacheItem). MayHold start m name (cache name)) (moment_is old.past joined new.past moment is at) (may name));
     }
 
 from_tail : (first : CacheItem) (more xs : List CacheItem) → AllByRecursion (λ x. IsOneOf x more) xs → AllByRecursion (λ x. IsOneOf x (first ∷ more)) xs

@@ -1,8 +1,8 @@
 -- What holds of each prefix of each item holds of all that stands, and of all that a crash leaves.
-use Rattle.std.proofs.Common.{◌≡◌, inl, inr, Bool, true, false, ℕ, List, [], ◌∷◌, ◌++◌, length, take, Option, Some, None, IfSome, if◌then◌else◌, refl, sym, subst, arith}
+use Rattle.std.proofs.Common.{◌≡◌, inl, inr, ℕ, List, [], ◌∷◌, ◌++◌, length, take, Option, Some, None, IfSome, refl, sym, subst, arith}
 use Rattle.std.proofs.lemmas.List.{take_all}
 use Rattle.std.specs.List.{AllByRecursion}
-use Rattle.bs_outside.specs.Cache.{CacheItem, Cache, same_name, or_else, last_of, now_of, MayHold, MayCrashTo, IsMoment}
+use Rattle.bs_outside.specs.Cache.{CacheItem, Cache, or_else, last_of, now_of, MayHold, MayCrashTo, IsMoment}
 use Rattle.bs_outside.specs.declared.names.CacheName.{CacheName}
 use Rattle.bs_outside.proofs.Since.{all-one_of}
 use Rattle.atomic_files.proofs.LookUps.{last_of-one}

@@ -1,10 +1,10 @@
-use Rattle.std.proofs.Common.{◌≡◌, ℕ, ◌+◌, ◌-◌, ◌<◌, ◌≤◌, Bool, true, false, not, ◌&&◌, ◌==◌, nat_le, if◌then◌else◌, List, [], ◌∷◌, ◌++◌, length, take, drop, Option, refl, sym, ◌∙◌, ap, arith, inl, inr}
+use Rattle.std.proofs.Common.{◌≡◌, ℕ, ◌+◌, ◌-◌, ◌≤◌, Bool, true, false, not, ◌&&◌, ◌==◌, nat_le, if◌then◌else◌, List, length, take, Option, refl, sym, ◌∙◌, ap, arith, inl, inr}
 use Rattle.std.proofs.lemmas.Bool.{le-leb, eq-eqb, ne_eqb, cases_eq}
 use Rattle.bs_outside.specs.declared.trees.Stat.{Stat}
 use Rattle.cache_key.specs.Key.{key_version, size_in, mtime_in, data_size_in, digest_in, number_at, has_constants, is_entry}
 use Rattle.cache_key.specs.Event.{is_digest, event_of_bytes}
 use Rattle.cache_key.specs.declared.events.Event.{Event}
-use Rattle.cache_key.specs.declared.events.Event.TheVariants.{Miss, Hit, Stale, Revalidated}
+use Rattle.cache_key.specs.declared.events.Event.TheVariants.{Hit, Stale, Revalidated}
 use Rattle.cache_key.proofs.KeyLemmas.{number_at-take, has_constants-take}
 
 -- two tests that ask the same

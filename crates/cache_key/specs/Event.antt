@@ -1,4 +1,4 @@
-use Rattle.std.specs.Prelude.{ℕ, Bool, true, false, ◌&&◌, ◌==◌, not, if◌then◌else◌, List, Option, None, Some}
+use Rattle.std.specs.Prelude.{ℕ, Bool, false, ◌&&◌, ◌==◌, not, if◌then◌else◌, List, Option, None, Some}
 use Rattle.bs_outside.specs.declared.names.Loaded.{Loaded}
 use Rattle.bs_outside.specs.declared.names.Loaded.TheVariants as loaded
 use Rattle.bs_outside.specs.declared.trees.Stat.{Stat}

@@ -30,12 +30,18 @@ fn hashes_and_names(rt: HostRuntime) -> Result<(), Fail> {
         assert_eq!(rt; name_text(rt.alloc(), &name)?.as_slice(), *text);
     }
     let name = cache_name(CacheKind::Iseq, b"foobar");
-    assert_eq!(rt; name_text(rt.alloc(), &name)?.as_slice(), b"iseq/85/944171f73967e8".as_slice());
+    assert_eq!(rt;
+        name_text(rt.alloc(), &name)?.as_slice(),
+        b"iseq/85/944171f73967e8".as_slice()
+    );
     let store = CacheName {
         kind: CacheKind::LoadPath,
         hash: 0,
     };
-    assert_eq!(rt; name_text(rt.alloc(), &store)?.as_slice(), b"load-path-cache".as_slice());
+    assert_eq!(rt;
+        name_text(rt.alloc(), &store)?.as_slice(),
+        b"load-path-cache".as_slice()
+    );
     Ok(())
 }
 

@@ -1,5 +1,5 @@
 -- What a call leaves that is short of memory.
-use Rattle.std.proofs.Common.{◌≡◌, ℕ, List, [], ◌++◌, length, take, get_or, set, refl, sym, ◌∙◌, ap, subst, arith}
+use Rattle.std.proofs.Common.{◌≡◌, ℕ, List, [], ◌++◌, length, get_or, set, sym, ◌∙◌, ap, subst, arith}
 use Rattle.std.proofs.lemmas.List.{take_all, set-get_or}
 use Rattle.bs_outside.specs.Cache.{CacheItem}
 use Rattle.mem_shelf.specs.Schedule.{number_after}

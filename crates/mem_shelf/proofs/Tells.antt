@@ -1,13 +1,12 @@
 -- What a shelf in memory tells after a call.
-use Rattle.std.proofs.Common.{◌≡◌, inl, inr, Bool, true, false, ◌==◌, ◌^◌, nat_lt, ℕ, zero, suc, ◌+◌, List, [], ◌∷◌, ◌++◌, length, take, map, get_or, set, if◌then◌else◌, refl, sym, ◌∙◌, ap, subst}
-use Rattle.std.proofs.lemmas.List.{append-nil, append_assoc}
+use Rattle.std.proofs.Common.{◌≡◌, inl, inr, Bool, true, false, ◌==◌, ◌^◌, nat_lt, ℕ, zero, suc, ◌+◌, List, [], ◌∷◌, ◌++◌, length, take, map, get_or, set, if◌then◌else◌, refl, sym, subst}
+use Rattle.std.proofs.lemmas.List.{append-nil}
 use Rattle.std.specs.List.{AllByRecursion}
 use Rattle.bs_outside.specs.Cache.{CacheItem, IsOneOf}
 use Rattle.bs_outside.specs.History.{History, Mixes, none, guest, mine, Since, IsLast}
 use Rattle.bs_outside.specs.declared.names.CacheName.{CacheName}
 use Rattle.bs_outside.specs.declared.names.Loaded.{Loaded}
 use Rattle.bs_outside.proofs.Since.{since-then}
-use Rattle.mem_shelf.specs.Schedule.{number_after}
 use Rattle.mem_shelf.specs.Keeping.{GuestItem, item_of, Keeping, history_of, due_at, due, arrived, ArrivesPartly, RenamesPartly, loaded, begun, appended, renamed}
 use Rattle.mem_shelf.proofs.Partly.{all_arrived}
 

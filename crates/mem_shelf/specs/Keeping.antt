@@ -1,4 +1,4 @@
-use Rattle.std.specs.Prelude.{◌≡◌, ℕ, ◌+◌, ◌^◌, ◌==◌, nat_lt, min, Bool, if◌then◌else◌, List, [], ◌∷◌, ◌++◌, length, take, map, get_or, set, Option, None, is_some}
+use Rattle.std.specs.Prelude.{◌≡◌, ℕ, ◌+◌, ◌^◌, ◌==◌, nat_lt, Bool, if◌then◌else◌, List, [], ◌∷◌, ◌++◌, length, take, map, get_or, set, None, is_some}
 use Rattle.bs_outside.specs.Cache.{CacheItem, last_of}
 use Rattle.bs_outside.specs.History.{History}
 use Rattle.bs_outside.specs.declared.names.CacheName.{CacheName}

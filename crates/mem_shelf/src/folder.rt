@@ -102,7 +102,11 @@ impl Folder {
     }
 
     /// The bytes that stand under a name.
-    pub(crate) fn load(&mut self, alloc: Global, name: &CacheName) -> Result<Option<Image>, AllocError>
+    pub(crate) fn load(
+        &mut self,
+        alloc: Global,
+        name: &CacheName,
+    ) -> Result<Option<Image>, AllocError>
         ensures image { IfOk result (λ image. image ≡ now_of (last_of self.old.start) (arrived self.old).past name.now) }
         ensures ok { IfOk result (λ image. self.new ≡ loaded self.old name.now (loaded_of image)) }
         ensures err { OnErr result (ArrivesPartly self.old self.new) }
@@ -133,7 +137,12 @@ impl Folder {
     }
 
     /// Puts the first bytes of the piece at the temporary's end.
-    pub(crate) fn append(&mut self, alloc: Global, temp: &Temp, piece: &[u8]) -> Result<usize, AllocError>
+    pub(crate) fn append(
+        &mut self,
+        alloc: Global,
+        temp: &Temp,
+        piece: &[u8],
+    ) -> Result<usize, AllocError>
         requires { temp.now < length self.old.temps }
         ensures ok { IfOk result (λ n. (n ≡ min self.old.bite (length piece.now)) × (self.new ≡ appended self.old temp.now (take n piece.now))) }
         ensures some { IfOk result (λ n. 0 < length piece.now → 0 < n) }
@@ -147,7 +156,12 @@ impl Folder {
     }
 
     /// The temporary's bytes join the past, last of all.
-    pub(crate) fn rename(&mut self, alloc: Global, temp: Temp, name: &CacheName) -> Result<(), AllocError>
+    pub(crate) fn rename(
+        &mut self,
+        alloc: Global,
+        temp: Temp,
+        name: &CacheName,
+    ) -> Result<(), AllocError>
         requires { temp < length self.old.temps }
         ensures ok { OnOk result (self.new ≡ renamed self.old temp name.now) }
         ensures err { OnErr result (RenamesPartly temp self.old self.new) }

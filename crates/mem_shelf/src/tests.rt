@@ -8,16 +8,19 @@ const NAME: CacheName = CacheName {
     kind: CacheKind::Iseq,
     hash: 1,
 };
+
 const OTHER: CacheName = CacheName {
     kind: CacheKind::Json,
     hash: 1,
 };
+
 const THIRD: CacheName = CacheName {
     kind: CacheKind::Iseq,
     hash: 3,
 };
 
 type Files = Vec<(CacheName, Bytes)>;
+
 type Guests = Vec<(u64, CacheName, Bytes)>;
 
 fn start_files(alloc: Global) -> Result<Files, AllocError> {
@@ -51,10 +54,21 @@ fn are_files(files: &[(CacheName, Bytes)], wanted: &[(CacheName, &[u8])]) -> boo
 }
 
 // Publishes twenty bytes where the call of that number fails, and says whether all is as it must be.
-fn published_well(alloc: Global, bite: usize, calls: u64, failing: u64) -> Result<bool, AllocError> {
+fn published_well(
+    alloc: Global,
+    bite: usize,
+    calls: u64,
+    failing: u64,
+) -> Result<bool, AllocError> {
     let bytes = b"twenty bytes in all.";
     let fail = vec![in alloc; failing]?;
-    let mut shelf = MemShelf::new(alloc, start_files(alloc)?, guests(alloc)?, fail, bite.max(1));
+    let mut shelf = MemShelf::new(
+        alloc,
+        start_files(alloc)?,
+        guests(alloc)?,
+        fail,
+        bite.max(1),
+    );
     let answer = publish(alloc, &mut shelf, &NAME, bytes);
     let first: [(CacheName, &[u8]); 1] = [(NAME, b"first guest")];
     let others: [(CacheName, &[u8]); 3] = [
@@ -69,9 +83,15 @@ fn published_well(alloc: Global, bite: usize, calls: u64, failing: u64) -> Resul
         (NAME, bytes),
     ];
     Ok(match answer {
-        Ok(()) => (failing < 1 || calls < failing) && are_files(shelf.past(), &all) && shelf.own() == [3].as_slice(),
-        Err(ShelfFault::Failed) if failing < 3 => 0 < failing && are_files(shelf.past(), &first) && shelf.own().is_empty(),
-        Err(ShelfFault::Failed) => failing <= calls && are_files(shelf.past(), &others) && shelf.own().is_empty(),
+        Ok(()) => (failing < 1 || calls < failing)
+            && are_files(shelf.past(), &all)
+            && shelf.own() == [3].as_slice(),
+        Err(ShelfFault::Failed) if failing < 3 => 0 < failing
+            && are_files(shelf.past(), &first)
+            && shelf.own().is_empty(),
+        Err(ShelfFault::Failed) => failing <= calls
+            && are_files(shelf.past(), &others)
+            && shelf.own().is_empty(),
         Err(ShelfFault::NoMemory) => return Err(AllocError),
     })
 }
@@ -82,7 +102,10 @@ fn publishes_over_bites(rt: HostRuntime) -> Result<(), Fail> {
     let rows = [(1, 22), (7, 5), (4096, 3)];
     for (bite, calls) in rows.iter() {
         for failing in 0..*calls + 2 {
-            assert!(rt; published_well(rt.alloc(), *bite, *calls, failing)?, "bite {bite}, failing {failing}");
+            assert!(rt;
+                published_well(rt.alloc(), *bite, *calls, failing)?,
+                "bite {bite}, failing {failing}"
+            );
         }
     }
     Ok(())

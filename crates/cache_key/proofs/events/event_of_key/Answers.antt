@@ -1,5 +1,4 @@
-use Rattle.std.proofs.Common.{◌≡◌, ◌∙◌, ◌==◌, Bool, true, false, refl, sym, ap, arith}
-use Rattle.cache_key.specs.Key.{key_version, mtime_in, digest_in, is_entry, size_in}
+use Rattle.std.proofs.Common.{◌∙◌, true, false, refl, sym, ap, arith}
 use Rattle.cache_key.specs.Event.{is_digest}
 use Rattle.cache_key.proofs.EventLemmas.{number_is, equal, unequal, event_is}
 use Rattle.cache_key.proofs.events.event_of_key.Goals as goal

@@ -1,4 +1,4 @@
-use Rattle.std.proofs.Common.{◌≡◌, ◌∙◌, sym, ap, arith, take, length-set, refl}
+use Rattle.std.proofs.Common.{◌∙◌, sym, arith, length-set, refl}
 use Rattle.std.proofs.lemmas.List.{take_all}
 use Rattle.cache_key.specs.Key.{hex_of}
 use Rattle.cache_key.proofs.NameLemmas.{digit_more, length-hex_of}

@@ -1,4 +1,4 @@
-use Rattle.std.proofs.Common.{◌≡◌, ◌≤◌, ℕ, true, refl, sym, ◌∙◌, ap, arith, List, ◌++◌, length, drop, length-drop}
+use Rattle.std.proofs.Common.{◌≡◌, ◌≤◌, ℕ, true, sym, ◌∙◌, ap, arith, List, ◌++◌, length, drop, length-drop}
 use Rattle.std.proofs.lemmas.List.{take_all}
 use Rattle.cache_key.specs.Key.{is_hashed, folder_of}
 use Rattle.cache_key.proofs.NameLemmas.{text_is, length-hex_of}

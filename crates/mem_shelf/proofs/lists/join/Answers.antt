@@ -8,9 +8,11 @@ use Rattle.mem_shelf.proofs.lists.join.Goals as goal
 pub returns-in_err-join_one-clause-err : goal.returns-in_err-join_one-clause-err
 returns-in_err-join_one-clause-err c =
     let front = due_at c.args.call (take c.loop-guest.guest-index c.args.guests.now) in
-    let joined : (n : ℕ) × (c.join_one.new.past.items ≡ c.args.past.now.items ++ take n (due_at c.args.call c.args.guests.now)) =
-    (length front, c.in_err-join_one.ensures.err ∙ c.loop-guest.invariant
-    ∙ ap (λ (l : List CacheItem). c.args.past.now.items ++ l) (due_at-front c.args.call c.args.guests.now c.loop-guest.guest-index)) in
+    let joined : (n : ℕ) × (c.join_one.new.past.items ≡ c.args.past.now.items ++ take n (due_at c.args.call c.args.guests.now)) = (
+      length front,
+      c.in_err-join_one.ensures.err ∙ c.loop-guest.invariant
+          ∙ ap (λ (l : List CacheItem). c.args.past.now.items ++ l) (due_at-front c.args.call c.args.guests.now c.loop-guest.guest-index),
+    ) in
     on_err _ joined
 
 pub loop-guest-preserved : goal.loop-guest-preserved

@@ -1,6 +1,5 @@
 use Rattle.std.proofs.Common.{◌∙◌}
 use Rattle.bs_outside.proofs.Owing.{on_err}
-use Rattle.mem_shelf.specs.Keeping.{ArrivesPartly}
 use Rattle.mem_shelf.proofs.Partly.{all_arrived}
 use Rattle.mem_shelf.proofs.folder.Folder.load.Goals as goal
 

@@ -1,4 +1,4 @@
-use Rattle.mem_shelf.proofs.Tells.{tells_partly, tells_arrived, tells_appended}
+use Rattle.mem_shelf.proofs.Tells.{tells_partly, tells_appended}
 use Rattle.mem_shelf.proofs.shelves.SureShelfShelf.append.Goals as goal
 
 pub returns-in_err-append-clause-since : goal.returns-in_err-append-clause-since

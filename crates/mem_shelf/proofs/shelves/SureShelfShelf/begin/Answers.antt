@@ -1,4 +1,4 @@
-use Rattle.mem_shelf.proofs.Tells.{tells_partly, tells_arrived, tells_begun}
+use Rattle.mem_shelf.proofs.Tells.{tells_partly, tells_begun}
 use Rattle.mem_shelf.proofs.shelves.SureShelfShelf.begin.Goals as goal
 
 pub returns-in_err-begin-clause-since : goal.returns-in_err-begin-clause-since

@@ -1,5 +1,5 @@
 use Rattle.bs_outside.proofs.Owing.{on_err}
-use Rattle.mem_shelf.proofs.Tells.{tells_partly, tells_arrived, tells_renamed, tells_renamed_partly}
+use Rattle.mem_shelf.proofs.Tells.{tells_renamed, tells_renamed_partly}
 use Rattle.mem_shelf.proofs.shelves.SureShelfShelf.rename.Goals as goal
 
 pub returns-in_err-rename-clause-err : goal.returns-in_err-rename-clause-err
