@@ -1,8 +1,8 @@
-use Rattle.std.proofs.Common.{◌≡◌, ℕ, ◌+◌, ◌-◌, ◌≤◌, Bool, true, false, not, ◌&&◌, ◌==◌, nat_le, if◌then◌else◌, List, length, take, Option, refl, sym, ◌∙◌, ap, arith, inl, inr}
-use Rattle.std.proofs.lemmas.Bool.{le-leb, eq-eqb, ne_eqb, cases_eq}
+use Rattle.std.proofs.Common.{◌≡◌, ℕ, ◌+◌, ◌-◌, ◌≤◌, Bool, true, false, not, ◌&&◌, ◌==◌, nat_le, if◌then◌else◌, List, length, take, Option, Some, None, refl, sym, ◌∙◌, ap, arith, inl, inr}
+use Rattle.std.proofs.lemmas.Bool.{le-leb, eq-eqb, ne_eqb, cases_eq, eqb-true}
 use Rattle.bs_outside.specs.declared.trees.Stat.{Stat}
 use Rattle.cache_key.specs.Key.{key_version, size_in, mtime_in, data_size_in, digest_in, number_at, has_constants, is_entry}
-use Rattle.cache_key.specs.Event.{is_digest, event_of_bytes}
+use Rattle.cache_key.specs.Event.{is_digest, event_of_bytes, IsEntryOfSize}
 use Rattle.cache_key.specs.declared.events.Event.{Event}
 use Rattle.cache_key.specs.declared.events.Event.TheVariants.{Hit, Stale, Revalidated}
 use Rattle.cache_key.proofs.KeyLemmas.{number_at-take, has_constants-take}
@@ -44,3 +44,38 @@ pub event_is : (bytes : List ℕ) (stat : Stat) (digest : Option ℕ) (entry sam
     → same_size ≡ (size_in bytes == stat.size) → same_time ≡ (mtime_in bytes == stat.mtime) → same_digest ≡ is_digest digest (digest_in bytes)
     → event_by entry same_size same_time same_digest ≡ event_of_bytes bytes stat digest
 event_is bytes stat digest entry same_size same_time same_digest a b c d = rw (a, b, c, d) refl
+
+by_hit : (e s t d : Bool) → event_by e s t d ≡ Hit → (e ≡ true) × (s ≡ true) × (t ≡ true)
+by_hit false s t d is = absurd cc
+by_hit true false t d is = absurd cc
+by_hit true true true d is = (refl, refl, refl)
+by_hit true true false true is = absurd cc
+by_hit true true false false is = absurd cc
+
+by_revalidated : (e s t d : Bool) → event_by e s t d ≡ Revalidated → (e ≡ true) × (s ≡ true) × (d ≡ true)
+by_revalidated false s t d is = absurd cc
+by_revalidated true false t d is = absurd cc
+by_revalidated true true true d is = absurd cc
+by_revalidated true true false true is = (refl, refl, refl)
+by_revalidated true true false false is = absurd cc
+
+-- a hit is an entry of the file's size and time
+pub hit_says : (bytes : List ℕ) (stat : Stat) (digest : Option ℕ) → event_of_bytes bytes stat digest ≡ Hit → IsEntryOfSize bytes stat.size × (mtime_in bytes ≡ stat.mtime)
+hit_says bytes stat digest is =
+    let parts = by_hit (is_entry key_version bytes) (size_in bytes == stat.size) (mtime_in bytes == stat.mtime) (is_digest digest (digest_in bytes)) is in
+    (record { form = parts.0; size_is = eqb-true (size_in bytes) stat.size parts.1 }, eqb-true (mtime_in bytes) stat.mtime parts.2)
+
+given : (digest : Option ℕ) (number : ℕ) → is_digest digest number ≡ true → digest ≡ Some number
+given None number is = absurd cc
+given (Some digest) number is = ap Some (sym (eqb-true number digest is))
+
+-- what is revalidated is an entry of the file's size and of the digest that was given
+pub revalidated_says : (bytes : List ℕ) (stat : Stat) (digest : Option ℕ) → event_of_bytes bytes stat digest ≡ Revalidated → IsEntryOfSize bytes stat.size × (digest ≡ Some (digest_in bytes))
+revalidated_says bytes stat digest is =
+    let parts = by_revalidated (is_entry key_version bytes) (size_in bytes == stat.size) (mtime_in bytes == stat.mtime) (is_digest digest (digest_in bytes)) is in
+    (record { form = parts.0; size_is = eqb-true (size_in bytes) stat.size parts.1 }, given digest (digest_in bytes) parts.2)
+
+-- an entry of the file's size and time is a hit
+pub is_hit : (bytes : List ℕ) (stat : Stat) (digest : Option ℕ) → IsEntryOfSize bytes stat.size → mtime_in bytes ≡ stat.mtime → event_of_bytes bytes stat digest ≡ Hit
+is_hit bytes stat digest entry time =
+    sym (event_is bytes stat digest true true true (is_digest digest (digest_in bytes)) (sym entry.form) (sym (eq-eqb (size_in bytes) stat.size entry.size_is)) (sym (eq-eqb (mtime_in bytes) stat.mtime time)) refl)

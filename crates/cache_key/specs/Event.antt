@@ -1,4 +1,4 @@
-use Rattle.std.specs.Prelude.{ℕ, Bool, false, ◌&&◌, ◌==◌, not, if◌then◌else◌, List, Option, None, Some}
+use Rattle.std.specs.Prelude.{◌≡◌, ℕ, Bool, true, false, ◌&&◌, ◌==◌, not, if◌then◌else◌, List, Option, None, Some}
 use Rattle.bs_outside.specs.declared.names.Loaded.{Loaded}
 use Rattle.bs_outside.specs.declared.names.Loaded.TheVariants as loaded
 use Rattle.bs_outside.specs.declared.trees.Stat.{Stat}
@@ -23,3 +23,8 @@ abbrev pub event_of_answer : Loaded → Stat → Option ℕ → Event
 event_of_answer (loaded.Found bytes) stat digest = event_of_bytes bytes stat digest
 event_of_answer loaded.Nothing stat digest = Miss
 event_of_answer loaded.Failed stat digest = Miss
+
+-- Bytes have the form of an entry, and were written for a file of this size.
+pub record IsEntryOfSize (bytes : List ℕ) (size : ℕ) : Type 0 where
+  pub form : is_entry key_version bytes ≡ true
+  pub size_is : size_in bytes ≡ size
