@@ -3,7 +3,7 @@ use Rattle.bs_outside.specs.Cache.{CacheItem, last_of}
 use Rattle.bs_outside.specs.History.{History}
 use Rattle.bs_outside.specs.declared.names.CacheName.{CacheName}
 use Rattle.bs_outside.specs.declared.names.Loaded.{Loaded}
-use Rattle.mem_shelf.specs.Schedule.{number_after}
+use Rattle.mem_shelf.specs.Schedule.{Schedule, number_after}
 
 -- A guest: the number of the call before which somebody else renames something, counted from 1, the name, and the bytes.
 abbrev pub GuestItem : Type 0
@@ -22,6 +22,11 @@ pub record Keeping : Type 0 where
   pub own : List ℕ
   pub loads : List (CacheName × Loaded)
   pub temps : List (List ℕ)
+
+-- What a shelf keeps whose calls fail as a schedule says.
+pub record Scripted : Type 0 where
+  pub kept : Keeping
+  pub script : Schedule
 
 -- What it tells.
 abbrev pub history_of : Keeping → History

@@ -14,7 +14,7 @@ use std::marker::Model;
 
 /// Cache files in memory, and others' renames by the numbers of the calls before which they come.
 #[derive(Drop, Debug)]
-pub struct Folder {
+pub(crate) struct Folder {
     start: Vec<CacheFile>,
     guests: Vec<Guest>,
     bite: usize,

@@ -3,12 +3,12 @@
 
 mod drafts;
 mod folder;
+pub mod laws;
 mod lists;
 mod script;
 mod shelves;
 #[cfg(test)]
 mod tests;
 
-pub use folder::Folder;
 pub use script::Script;
 pub use shelves::{MemShelf, SureShelf};
