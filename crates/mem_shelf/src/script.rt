@@ -31,6 +31,7 @@ impl Script {
     pub fn next_fails(&mut self) -> bool
         ensures exact { result ≡ fails_next self.old }
         ensures next { self.new ≡ called self.old }
+        ensures same { self.new.fail ≡ self.old.fail }
         ensures kept { faults_of self.old ≤ faults_of self.new }
         ensures rose { result ≡ true → faults_of self.old + 1 ≤ faults_of self.new }
     {
