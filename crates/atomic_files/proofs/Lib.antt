@@ -1,0 +1,4 @@
+pub mod Written
+pub mod LookUps
+pub mod EachMomentOf
+pub mod Prefixes

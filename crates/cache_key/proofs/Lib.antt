@@ -1,0 +1,4 @@
+pub mod KeyLemmas
+pub mod NameLemmas
+pub mod EventLemmas
+pub mod KeyRead

@@ -1,0 +1,3 @@
+pub mod Fnv
+pub mod Key
+pub mod Event

@@ -1,0 +1,6 @@
+pub mod Counting
+pub mod LastOf
+pub mod Joining
+pub mod Partly
+pub mod Latest
+pub mod Tells
