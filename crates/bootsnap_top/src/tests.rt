@@ -236,3 +236,35 @@ fn words_and_faults(rt: HostRuntime) -> anyhow::Result<()> {
     }
     Ok(())
 }
+
+#[test]
+fn a_failing_output_took_a_prefix(rt: HostRuntime) -> anyhow::Result<()> {
+    let alloc = rt.alloc();
+    let mut text = Vec::new(alloc);
+    let mut whole = Vec::new(alloc);
+    for _ in 0..900 {
+        text.extend_from_slice(b"puts \"0123456789012345678901234567890123456789\"\n")?;
+        whole.extend_from_slice(b"0123456789012345678901234567890123456789\n")?;
+    }
+    for (fail, number, length) in [
+        (0, 0, 36_900),
+        (1, 205, 0),
+        (3, 205, 16_400),
+        (5, 205, 32_800),
+        (6, 0, 36_900),
+    ] {
+        let left = call::<HostRuntime, Brand>(
+            &rt,
+            alloc,
+            &["run", "main.rb"],
+            Some(&text),
+            [0, fail, 0],
+            Blank::new(1),
+        )?;
+        let left = left.expect(&rt, "a source tree");
+        assert_eq!(rt; left.status, number);
+        assert_eq!(rt; left.output.bytes().len(), length);
+        assert!(rt; whole.starts_with(left.output.bytes()));
+    }
+    Ok(())
+}

@@ -1,3 +1,3 @@
 pub mod Nothing
-pub mod Schedule
+pub mod Takings
 pub mod TreeLists

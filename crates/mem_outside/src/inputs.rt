@@ -1,10 +1,11 @@
 //! Inputs in memory.
 ghost use Rattle.std.specs.Prelude.{◌≡◌, ◌<◌, ◌≤◌, ◌↔◌, ◌++◌, [], true, length, IfOk, OnErr, IsErrOf, Some};
 ghost use Rattle.bs_outside.specs.Told.{put_before, Rose};
-ghost use Rattle.mem_outside.specs.Schedule.{after_call, fails_next, faults_of};
+ghost use Rattle.mem_shelf.specs.Schedule.{called, fails_next, faults_of};
 
-use crate::{Script, Unread};
+use crate::Unread;
 use bs_outside::{Bytes, Input, InputFault};
+use mem_shelf::Script;
 use std::alloc::Global;
 
 /// An input over bytes, whose calls fail as its script says.
@@ -39,7 +40,7 @@ impl Input for MemInput {
         ensures counted { faults_of self.old.script ≤ faults_of self.new.script }
         ensures failed { IsErrOf result InputFault.Failed → Rose (faults_of self.old.script) (faults_of self.new.script) }
         ensures exact { IsErrOf result InputFault.Failed ↔ fails_next self.old.script ≡ true }
-        ensures called { self.new.script ≡ after_call self.old.script }
+        ensures called { self.new.script ≡ called self.old.script }
     {
         if self.script.next_fails() {
             return Err(InputFault::Failed);

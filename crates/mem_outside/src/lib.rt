@@ -1,9 +1,8 @@
-//! The outside in memory: trees, inputs and sinks that tell what they contain, and whose calls fail as a list says.
+//! The outside in memory: trees, shelves, inputs and sinks that tell what they contain, and whose calls fail as a list says.
 #![tactic(auto)]
 
 mod files;
 mod inputs;
-mod script;
 mod shelves;
 mod sinks;
 #[cfg(test)]
@@ -14,7 +13,7 @@ mod unread;
 pub use bs_outside::{Item as MemItem, Loaded};
 pub use files::Files;
 pub use inputs::{MemInput, SureInput};
-pub use script::Script;
+pub use mem_shelf::{MemShelf, Script, SureShelf};
 pub use shelves::NoShelf;
 pub use sinks::{MemSink, SureSink};
 pub use trees::{MemTree, SureTree};

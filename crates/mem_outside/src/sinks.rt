@@ -1,10 +1,10 @@
 //! Sinks that keep what they take.
 ghost use Rattle.std.specs.Prelude.{◌≡◌, ◌+◌, ◌<◌, ◌≤◌, ◌↔◌, List, ℕ, [], true, length, take, Some, IfOk, OnErr, IsErrOf};
 ghost use Rattle.bs_outside.specs.Told.{added, AddsPrefix, Rose};
-ghost use Rattle.mem_outside.specs.Schedule.{after_call, fails_next, faults_of};
+ghost use Rattle.mem_shelf.specs.Schedule.{called, fails_next, faults_of};
 
-use crate::Script;
 use bs_outside::{Sink, SinkFault};
+use mem_shelf::Script;
 use std::alloc::Global;
 use std::marker::Model;
 
@@ -17,7 +17,7 @@ pub struct MemSink {
 
 impl Model for MemSink {
     ghost use Rattle.std.specs.Prelude.{List, ℕ};
-    ghost use Rattle.mem_outside.specs.Schedule.{Taking};
+    ghost use Rattle.mem_outside.specs.Takings.{Taking};
 
     ghost Value = { Taking };
 
@@ -56,7 +56,7 @@ impl Sink for MemSink {
         ensures counted { faults_of self.old.schedule ≤ faults_of self.new.schedule }
         ensures failed { IsErrOf result SinkFault.Failed → Rose (faults_of self.old.schedule) (faults_of self.new.schedule) }
         ensures exact { IsErrOf result SinkFault.Failed ↔ fails_next self.old.schedule ≡ true }
-        ensures called { self.new.schedule ≡ after_call self.old.schedule }
+        ensures called { self.new.schedule ≡ called self.old.schedule }
     {
         if self.script.next_fails() {
             return Err(SinkFault::Failed);

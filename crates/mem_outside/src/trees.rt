@@ -6,10 +6,11 @@ ghost use Rattle.std.specs.FinMap as map;
 ghost use Rattle.bs_outside.specs.Paths.{is_segment};
 ghost use Rattle.bs_outside.specs.SourceTree.{stat_at, list_at, bytes_at, IsSourceTree};
 ghost use Rattle.mem_outside.specs.TreeLists.{map_of, is_tree_list};
-ghost use Rattle.mem_outside.specs.Schedule.{after_call, fails_next, faults_of};
+ghost use Rattle.mem_shelf.specs.Schedule.{called, fails_next, faults_of};
 
-use crate::{Files, Script};
+use crate::Files;
 use bs_outside::{Bytes, Item, Items, Listing, NoMemory, Stat, Text, Texts, Tree, TreeFault};
+use mem_shelf::Script;
 use std::alloc::Global;
 
 /// Puts a copy of the path at the end of the list.
@@ -105,7 +106,7 @@ impl Tree for MemTree {
         ensures counted { faults_of self.old.script ≤ faults_of self.new.script }
         ensures failed { IsErrOf result TreeFault.Failed → Rose (faults_of self.old.script) (faults_of self.new.script) }
         ensures exact { IsErrOf result TreeFault.Failed ↔ fails_next self.old.script ≡ true }
-        ensures called { self.new.script ≡ after_call self.old.script }
+        ensures called { self.new.script ≡ called self.old.script }
     {
         if self.script.next_fails() {
             return Err(TreeFault::Failed);
@@ -127,7 +128,7 @@ impl Tree for MemTree {
         ensures counted { faults_of self.old.script ≤ faults_of self.new.script }
         ensures failed { IsErrOf result TreeFault.Failed → Rose (faults_of self.old.script) (faults_of self.new.script) }
         ensures exact { IsErrOf result TreeFault.Failed ↔ fails_next self.old.script ≡ true }
-        ensures called { self.new.script ≡ after_call self.old.script }
+        ensures called { self.new.script ≡ called self.old.script }
     {
         if self.script.next_fails() {
             return Err(TreeFault::Failed);
@@ -151,7 +152,7 @@ impl Tree for MemTree {
         ensures counted { faults_of self.old.script ≤ faults_of self.new.script }
         ensures failed { IsErrOf result TreeFault.Failed → Rose (faults_of self.old.script) (faults_of self.new.script) }
         ensures exact { IsErrOf result TreeFault.Failed ↔ fails_next self.old.script ≡ true }
-        ensures called { self.new.script ≡ after_call self.old.script }
+        ensures called { self.new.script ≡ called self.old.script }
     {
         if self.script.next_fails() {
             return Err(TreeFault::Failed);
