@@ -1,0 +1,14 @@
+pub mod Numbers
+pub mod Loops
+pub mod Lists
+pub mod Bodies
+pub mod Exact
+pub mod Heads
+pub mod Parts
+pub mod Whole
+pub mod Indexes
+pub mod Loads
+pub mod Units
+pub mod PublicAnswers
+pub mod Dumps
+pub mod Leb128

@@ -1,0 +1,16 @@
+pub mod Chains
+pub mod Numbers
+pub mod Rows
+pub mod Forms
+pub mod Firsts
+pub mod Sequences
+pub mod Equations
+pub mod Scalars
+pub mod Fresh
+pub mod Bodies
+pub mod Sets
+pub mod Texts
+pub mod Keys
+pub mod Loops
+pub mod Written
+pub mod Messages

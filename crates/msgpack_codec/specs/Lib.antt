@@ -1,0 +1,5 @@
+pub mod Message
+pub mod Reading
+pub mod Heads
+pub mod Values
+pub mod Writing

@@ -1,0 +1,11 @@
+pub mod Each
+pub mod Order
+pub mod Lists
+pub mod Ordered
+pub mod Whole
+pub mod Places
+pub mod Tables
+pub mod Gathered
+pub mod Turns
+pub mod Heads
+pub mod Once

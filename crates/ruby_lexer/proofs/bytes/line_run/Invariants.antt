@@ -1,0 +1,9 @@
+use Rattle.std.proofs.Common.{◌≡◌, ◌+◌, length}
+use Rattle.ruby_lexer.specs.Bytes.{is_inline, run}
+use Rattle.ruby_lexer.proofs.bytes.line_run.Given as goal
+
+abbrev pub invariant-loop-left : goal.invariant-loop-left
+invariant-loop-left l = (l.count + run is_inline l.left ≡ run is_inline l.text) × (l.count + length l.left ≡ length l.text)
+
+abbrev pub decreases-loop-left : goal.decreases-loop-left
+decreases-loop-left l = length l.left

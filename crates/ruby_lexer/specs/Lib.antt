@@ -1,0 +1,15 @@
+pub mod Bytes
+pub mod Classes
+pub mod Pieces
+pub mod Words
+pub mod Numbers
+pub mod Marks
+pub mod Texts
+pub mod Forms
+pub mod Cut
+pub mod Tokens
+pub mod Scan
+pub mod Views
+pub mod Settle
+pub mod Steps
+pub mod Reading

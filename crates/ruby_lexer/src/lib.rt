@@ -1,0 +1,28 @@
+//! The tokens of a Ruby text.
+#![tactic(auto)]
+
+mod blocks;
+mod bytes;
+mod class;
+mod cursor;
+mod escapes;
+mod gather;
+pub mod laws;
+mod lexing;
+mod marks;
+mod numbers;
+mod parts;
+mod piece;
+mod pieces;
+mod quotes;
+mod reader;
+mod small;
+mod state;
+mod token;
+mod words;
+
+pub use lexing::{Front, LexError, LexFault, read_front, tokens};
+pub use token::{Part, Token, TokenKind};
+
+#[cfg(test)]
+mod tests;
