@@ -19,7 +19,7 @@ const FILE_LIMIT: usize = 1_073_741_824;
 const NAME_LIMIT: usize = 1_048_576;
 
 /// The folder of the cache, which is no part of the source tree.
-const CACHE_FOLDER: &str = ".bootsnap";
+pub(crate) const CACHE_FOLDER: &str = ".bootsnap";
 
 /// The folder in which the program runs. Links, devices, names that are not UTF-8 and the cache's folder are not there.
 #[derive(Drop)]
@@ -93,7 +93,7 @@ fn relative(path: &[u8]) -> Option<&str> {
 }
 
 /// What stands at the path itself, no link followed at its end.
-fn entry<R: Files>(rt: &R, path: &str) -> io::Result<Option<Metadata>> {
+pub(crate) fn entry<R: Files>(rt: &R, path: &str) -> io::Result<Option<Metadata>> {
     match fs::symlink_metadata(rt, path) {
         Ok(found) => Ok(Some(found)),
         Err(error) => match error.kind() {
@@ -104,7 +104,7 @@ fn entry<R: Files>(rt: &R, path: &str) -> io::Result<Option<Metadata>> {
 }
 
 /// Whether each folder above the path is a folder, and no link.
-fn is_below_folders<R: Files>(rt: &R, path: &str) -> io::Result<bool> {
+pub(crate) fn is_below_folders<R: Files>(rt: &R, path: &str) -> io::Result<bool> {
     for end in 1..path.len() {
         if let Some((above, rest)) = path.split_at_checked(end)
             && rest.starts_with('/')
@@ -165,16 +165,25 @@ fn seconds(found: &Metadata) -> io::Result<u64>
 }
 
 fn bytes_of<R: Files>(rt: &R, alloc: Global, path: &[u8]) -> io::Result<Option<Bytes>> {
-    let Some(path) = relative(path) else {
-        return Ok(None);
-    };
+    match relative(path) {
+        Some(path) => file_bytes(rt, alloc, path),
+        None => Ok(None),
+    }
+}
+
+/// The bytes of the file at the path, where one stands there.
+pub(crate) fn file_bytes<R: Files>(rt: &R, alloc: Global, path: &str) -> io::Result<Option<Bytes>> {
     match found_at(rt, path)? {
-        Some(found) if found.is_file() => {
-            let mut file = fs::open(rt, path)?;
-            let all = read_all(alloc, &mut file)?;
-            Ok(Some(Bytes::from_vec(all)))
-        }
-        _ => Ok(None),
+        Some(found) if found.is_file() => {}
+        _ => return Ok(None),
+    }
+    match fs::open(rt, path) {
+        Ok(mut file) => Ok(Some(Bytes::from_vec(read_all(alloc, &mut file)?))),
+        Err(error) => match error.kind() {
+            // Somebody took it away after the look.
+            ErrorKind::NotFound | ErrorKind::NotADirectory => Ok(None),
+            _ => Err(error),
+        },
     }
 }
 

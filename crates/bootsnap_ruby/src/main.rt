@@ -4,6 +4,7 @@
 ghost use Rattle.std.specs.Prelude.{◌≡◌, IfOk, vec_len};
 
 mod folder;
+mod shelf;
 mod streams;
 #[cfg(test)]
 mod tests;
