@@ -60,7 +60,8 @@ fn behind_index(rows: usize, before: usize) -> Option<u64>
     (rows as u64).checked_mul(33)?.checked_add(before as u64)
 }
 
-/// The dump of the unit.
+/// The dump of the unit, whose rows are such as an index has, with a body for each, and whose break
+/// and next rows name no sequence.
 pub fn dump(alloc: Global, unit: &Unit) -> Result<Bytes, AllocError>
     requires { CanBeDumped unit.now }
     ensures { IfOk result (λ bytes. Spells unit.now bytes) }

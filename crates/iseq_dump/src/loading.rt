@@ -200,6 +200,8 @@ pub fn read_body<L: Ledger>(
     steps: &mut Steps<L>,
 ) -> Result<Option<Sequence>, AllocError>
     ensures found { IfOk result (λ r. IfSome r (λ body. IsBody body × (take size (drop place image.now) ≡ body_bytes body))) }
+    // The image has all of these bytes, so that none of them is cut off in what was found.
+    ensures inside { IfOk result (λ r. IfSome r (λ body. place + size ≤ length image.now)) }
     ensures none { IfOk result (λ r. IfNone r ((body : Sequence) → IsBody body → length (body_bytes body) ≡ size → take size (drop place image.now) ≡ body_bytes body → ⊥)) }
     ensures taken { steps.new ≤ steps.old + size }
 {

@@ -44,8 +44,9 @@ fn has_right_operands(seq: &Sequence, rows: &[IndexRow], id: usize) -> bool
 
 /// Whether the body of the sequence of number `id` is sound, under the rows of its unit's index: a
 /// machine that runs it never finds too little on the stack, a local that does not exist, or a jump
-/// out of the code. The cost is linear in the length of the body and in the levels that it names, and
-/// a catch row costs the number of binary digits of its range's length more.
+/// out of the code. The cost is linear in the length of the body, in the sequences that stand around
+/// it up to the levels that it names, and in the children that it names; a catch row costs the number
+/// of binary digits of its range's length more.
 pub fn check_body(
     alloc: Global,
     seq: &Sequence,

@@ -54,7 +54,8 @@ pub enum Instr {
     ConcatStrings(u64),
     /// The answer of `to_s`.
     ObjToString,
-    /// Of an object and its text, the text if it is a String, else the object's name.
+    /// Of an object and its text, the text if it is a String, else `#<Name>` with the name of the
+    /// object's class.
     AnyToString,
     /// A call: the method's name, the number of arguments, those that are spread, flags (1 for a
     /// receiver `self`, 2 for a block value on top, 4 for a bare name), and the block's sequence.
@@ -75,11 +76,13 @@ pub enum Instr {
     BranchIf(u64),
     BranchUnless(u64),
     BranchNil(u64),
-    /// Ends with the top as value: 0 goes on with what was pending, 1 is return, 2 and 3 are break
-    /// and next of a loop, 4 and 5 those of a block, 6 ends an ensured part, 7 is retry.
+    /// Leaves with the top as value, but 0, which takes none and goes on with what was pending. 1 is
+    /// return, 2 and 3 are break and next of a loop, 4 and 5 those of a block, 6 ends an ensured part,
+    /// 7 is retry.
     Throw(u64),
     Leave,
-    /// The first so many values of an array, the first on top.
+    /// The first so many values of an array, the first on top, and nil for those that it lacks; any
+    /// other value counts as an array of it alone.
     ExpandArray(u64),
 }
 

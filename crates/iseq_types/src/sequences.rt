@@ -44,7 +44,7 @@ pub struct Line {
 
 /// The body of a file, method, class, block, rescue part or ensure part. `entries` are the places
 /// at which it begins with no optional parameter given, with one, and so on up to all; there are
-/// none where no parameter is optional.
+/// none, or one, where no parameter is optional.
 #[derive(Drop)]
 pub struct Sequence {
     pub name: Text,

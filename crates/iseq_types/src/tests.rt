@@ -153,7 +153,7 @@ fn body(alloc: Global, text: &str) -> Result<Sequence, AllocError> {
 }
 
 /// The index of all bodies here.
-const ROWS: [IndexRow; 10] = [
+const ROWS: [IndexRow; 11] = [
     IndexRow {
         kind: SeqKind::File,
         parent: 0,
@@ -203,6 +203,11 @@ const ROWS: [IndexRow; 10] = [
         kind: SeqKind::Method,
         parent: 5,
         locals: 0,
+    },
+    IndexRow {
+        kind: SeqKind::Method,
+        parent: 1,
+        locals: 1,
     },
 ];
 
@@ -360,6 +365,8 @@ const PAIRS: &[(usize, &str, &str)] = &[
         "locals.2 nil set.1.0 nil leave",
     ),
     (5, "get.0.0 leave", "nil leave"),
+    // A method sees nothing outward, though another method with this slot stands around it.
+    (10, "locals.1 get.2.1 leave", "locals.1 get.0.0 leave"),
     // Names of sequences are children of the right kind.
     (0, "nil send.0.0.0.2 leave", "nil send.0.0.0.7 leave"),
     (

@@ -409,6 +409,48 @@ fn read_from<L: Ledger>(
     (got, steps.taken())
 }
 
+/// Whether it is the map that has "a" with the list of 1, -1 and nil.
+fn is_map_of_list(value: &Value) -> bool {
+    let Value::Map(pairs) = value else {
+        return false;
+    };
+    let [(Value::Str(key), Value::List(items))] = pairs.as_slice() else {
+        return false;
+    };
+    key.as_slice() == b"a".as_slice()
+        && matches!(
+            items.as_slice(),
+            [Value::Int(1), Value::Int(-1), Value::Nil]
+        )
+}
+
+/// A value part by part, and what keeps a reader from a value.
+#[test]
+fn a_map_of_a_list(rt: HostRuntime) -> Result<(), Fail> {
+    let alloc = rt.alloc();
+    let bytes = [0x81, 0xa1, 0x61, 0x93, 0x01, 0xff, 0xc0];
+    let value = decode(alloc, &bytes)?;
+    assert!(rt; is_map_of_list(&value));
+    assert_eq!(rt; encode(alloc, &value)?.as_slice(), bytes.as_slice());
+    let (got, taken) = read_from::<Brand>(
+        alloc,
+        Bytes::new(alloc, &[0x92, 0x01])?,
+        0,
+        Blank::new(1),
+    );
+    assert!(rt; matches!(got, Err(Unread::Short)));
+    assert_eq!(rt; taken, 2);
+    let (got, taken) = read_from::<Brand>(
+        alloc,
+        Bytes::new(alloc, &[0xcc, 0x05])?,
+        0,
+        Blank::new(1),
+    );
+    assert!(rt; matches!(got, Err(Unread::Malformed { at: 1 })));
+    assert_eq!(rt; taken, 2);
+    Ok(())
+}
+
 /// A reader takes each byte left once.
 #[test]
 fn readers(rt: HostRuntime) -> Result<(), Fail> {

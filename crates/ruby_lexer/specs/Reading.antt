@@ -22,4 +22,4 @@ FaultsWith bytes NoMemory = Unit {0}
 
 -- the bytes are a text; or they are none, with the line of the fault
 abbrev pub TextFaults : Bytes → Option ℕ → Type 0
-TextFaults bytes fault = MatchOption fault (IsText bytes) (λ line. HasNoTokens bytes line)
+TextFaults bytes fault = MatchOption fault (IsText bytes) (λ line. (IsText bytes → ⊥) × HasNoTokens bytes line)

@@ -26,7 +26,7 @@ abbrev pub keywords : List Bytes
 keywords =
     codes "and" ∷ codes "begin" ∷ codes "break" ∷ codes "case" ∷ codes "class" ∷ codes "def" ∷ codes "do" ∷ codes "else" ∷ codes "elsif" ∷ codes "end" ∷ codes "ensure" ∷ codes "false" ∷ codes "if" ∷ codes "module" ∷ codes "next" ∷ codes "nil" ∷ codes "not" ∷ codes "or" ∷ codes "rescue" ∷ codes "retry" ∷ codes "return" ∷ codes "self" ∷ codes "super" ∷ codes "then" ∷ codes "true" ∷ codes "unless" ∷ codes "until" ∷ codes "when" ∷ codes "while" ∷ codes "yield" ∷ codes "__FILE__" ∷ codes "__LINE__" ∷ codes "__dir__" ∷ []
 
--- the reserved words that are read nowhere, so that no token begins where one stands
+-- the reserved words that stand for nothing here, so that no token begins where one would be a keyword
 abbrev pub forbidden : List Bytes
 forbidden =
     codes "for" ∷ codes "in" ∷ codes "alias" ∷ codes "undef" ∷ codes "redo" ∷ codes "BEGIN" ∷ codes "END" ∷ codes "defined?" ∷ codes "__ENCODING__" ∷ []

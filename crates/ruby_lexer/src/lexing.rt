@@ -3,7 +3,7 @@ ghost use Rattle.std.specs.Prelude.{◌≡◌, ◌≢◌, ◌≤◌, ◌<◌, �
 ghost use Rattle.ruby_lexer.specs.Pieces.{seen_all};
 ghost use Rattle.ruby_lexer.specs.Cut.{at_start};
 ghost use Rattle.ruby_lexer.specs.Reading.{AllRead, FaultsWith, TextFaults};
-ghost use Rattle.ruby_lexer.specs.Tokens.{is_end_line, end_length, before_end, IsFront, AreTokens};
+ghost use Rattle.ruby_lexer.specs.Tokens.{is_end_line, end_length, before_end, IsText, IsFront, AreTokens};
 
 use crate::bytes::{begins_with, starts};
 use crate::cursor::{Cursor, newlines};
@@ -21,7 +21,7 @@ const DEPTH: u32 = 200;
 /// A text has at most so many bytes.
 const LIMIT: usize = 4194304;
 
-/// Where a text has no token.
+/// Where a text has no token, or is no text.
 #[derive(Clone, Copy, Debug, PartialEq, Eq, Drop)]
 pub struct LexFault {
     /// The line of the place, counted from 1.
@@ -140,6 +140,8 @@ fn text_fault(text: &[u8]) -> Option<u64>
 pub fn read_front(alloc: Global, text: &[u8]) -> Result<Front, LexError>
     ensures front { IfOk result (λ f. IsFront text.now (seen_all f.tokens) f.fault) }
     ensures fault { IfErr result (λ e. FaultsWith text.now e) }
+    // So the line is 1 or that of the first bad byte.
+    ensures no_text { IfErr result (λ e. e ≢ LexError.NoMemory → IsText text.now → ⊥) }
 {
     if let Some(line) = text_fault(text) {
         return Err(LexError::Fault(LexFault { line }));

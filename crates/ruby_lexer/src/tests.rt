@@ -319,8 +319,13 @@ const MARKS: [(&[u8], &[u8]); 22] = [
 ];
 
 /// Newlines, blanks, comments, the end, and bytes that are no UTF-8.
-const NEWLINES_AND_BLANKS: [(&[u8], &[u8]); 54] = [
+const NEWLINES_AND_BLANKS: [(&[u8], &[u8]); 59] = [
     (b"a;b", b"n:a nl n:b"),
+    (b"puts 1\nend", b"n:puts _1 nl k:end@2"),
+    (b"f { |x|\n y }", b"n:f _m:{ _m:| n:x m:| _n:y@2 _m:}@2"),
+    (b"f { |\nx| y }", b"n:f _m:{ _m:| n:x@2 m:|@2 _n:y@2 _m:}@2"),
+    (b"a or\nb", b"n:a _k:or n:b@2"),
+    (b"'a\nb' $$", b"!2"),
     (b"a\n\nb", b"n:a nl nl@2 n:b@3"),
     (b"\na", b"nl n:a@2"),
     (b"a,\nb", b"n:a m:, n:b@2"),

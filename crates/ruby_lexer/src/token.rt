@@ -50,7 +50,7 @@ pub enum TokenKind {
     Symbols(Items<Bytes>),
 }
 
-/// A part of a text in double quotes.
+/// A part of a literal, or of a label.
 #[cycle(tokens)]
 #[derive(Drop)]
 pub enum Part {

@@ -46,7 +46,7 @@ const KEYWORDS: [&[u8]; 33] = [
     b"__dir__",
 ];
 
-/// The reserved words that are read nowhere.
+/// The reserved words that stand for nothing here.
 const FORBIDDEN: [&[u8]; 9] = [
     b"for",
     b"in",
