@@ -243,6 +243,94 @@ fn changes_and_prefixes(rt: HostRuntime) -> Result<(), Fail> {
     Ok(())
 }
 
+/// The dump of a file with an empty body: the path's length, the path, and where the body begins.
+fn with_path(alloc: Global, length: &[u8], path: &[u8], place: u8) -> Result<Vec<u8>, AllocError> {
+    let mut bytes = Vec::from_slice(alloc, &EMPTY[..4])?;
+    bytes.extend_from_slice(length)?;
+    bytes.extend_from_slice(path)?;
+    bytes.push(1)?;
+    bytes.extend_from_slice(&EMPTY[11..28])?;
+    bytes.push(place)?;
+    bytes.extend_from_slice(&EMPTY[29..])?;
+    Ok(bytes)
+}
+
+/// The length and the text of a path, where the body begins, and whether that is a dump.
+const PATHS: &[(&[u8], &[u8], u8, bool)] = &[
+    (&[5], b"/e.rb", 44, true),
+    (&[0], b"", 39, true),
+    // A path of two bytes that are no UTF-8.
+    (&[2], &[0xff, 0xfe], 41, true),
+    // The body's place is the one behind the index.
+    (&[0], b"", 40, false),
+    // A length in more bytes than it needs.
+    (&[0x80, 0x00], b"", 40, false),
+    (&[0x85, 0x00], b"/e.rb", 45, false),
+    // 2^64 - 1, the same in eleven bytes, and 2^64.
+    (
+        &[0xff, 0xff, 0xff, 0xff, 0xff, 0xff, 0xff, 0xff, 0xff, 0x01],
+        b"/e.rb",
+        53,
+        false,
+    ),
+    (
+        &[
+            0xff, 0xff, 0xff, 0xff, 0xff, 0xff, 0xff, 0xff, 0xff, 0x81, 0x00,
+        ],
+        b"/e.rb",
+        54,
+        false,
+    ),
+    (
+        &[0x80, 0x80, 0x80, 0x80, 0x80, 0x80, 0x80, 0x80, 0x80, 0x02],
+        b"/e.rb",
+        53,
+        false,
+    ),
+];
+
+/// A byte of the empty file's dump, another one for it, and whether that is a dump.
+const CHANGES: &[(u8, u8, bool)] = &[
+    (4, 4, false),
+    (5, 0x41, true),
+    (9, 0xff, true),
+    (10, 2, false),
+    (11, 1, false),
+    (28, 43, false),
+    (36, 13, false),
+    (45, 7, true),
+    (51, 3, false),
+    (52, 2, true),
+    (53, 0, false),
+    (55, 7, false),
+];
+
+#[test]
+fn numbers_and_lengths(rt: HostRuntime) -> Result<(), Fail> {
+    let alloc = rt.alloc();
+    for (length, path, place, is_dump) in PATHS {
+        let bytes = with_path(alloc, length, path, *place)?;
+        let (unit, taken) = loaded(alloc, &bytes, 0)?;
+        assert_eq!(rt; unit.is_some(), *is_dump, "{length:?}");
+        assert!(rt; taken <= bytes.len() as u64);
+    }
+    for (place, byte, is_dump) in CHANGES {
+        let mut bytes = Vec::from_slice(alloc, &EMPTY)?;
+        if let Some(changed) = bytes.get_mut(*place as usize) {
+            *changed = *byte;
+        }
+        let unit = loaded(alloc, &bytes, 0)?.0;
+        assert_eq!(rt; unit.is_some(), *is_dump, "{place} {byte}");
+    }
+    // as many sequences as a number can say
+    let mut bytes = Vec::from_slice(alloc, &EMPTY[..10])?;
+    bytes.extend_from_slice(&u64::MAX.to_le_bytes())?;
+    bytes.extend_from_slice(&[0xff, 0x01])?;
+    bytes.extend_from_slice(&EMPTY[11..])?;
+    assert!(rt; loaded(alloc, &bytes, 0)?.0.is_none());
+    Ok(())
+}
+
 #[test]
 fn every_kind(rt: HostRuntime) -> Result<(), Fail> {
     let alloc = rt.alloc();
