@@ -1,0 +1,11 @@
+pub mod Chains
+pub mod Runs
+pub mod Spaces
+pub mod Words
+pub mod Digits
+pub mod Halves
+pub mod Rows
+pub mod Letters
+pub mod Scalars
+pub mod Nests
+pub mod Tops

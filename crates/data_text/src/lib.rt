@@ -1,0 +1,18 @@
+//! Reads data texts: JSON.
+//!
+//! The grammar is that of RFC 8259 with whole numbers alone.
+#![tactic(auto)]
+
+mod blanks;
+mod fault;
+mod numbers;
+mod pairs;
+mod reading;
+mod strings;
+#[cfg(test)]
+mod tests;
+mod units;
+mod values;
+
+pub use fault::{DataError, DataFault};
+pub use reading::read_json;
