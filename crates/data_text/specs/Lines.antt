@@ -25,7 +25,7 @@ first_lines zero text = []
 first_lines (suc n) [] = []
 first_lines (suc n) (b ∷ text) = b ∷ (if b == 10 then first_lines n text else first_lines (suc n) text)
 
--- more bytes behind these, any number of them or none, make a JSON text
+-- More bytes behind these, any number of them or none, make a JSON text. Where some do, some of ASCII do, so it needs not be said that a text is UTF-8.
 pub record CanGoOn (bytes : List ℕ) : Type 0 where
   pub value : Value
   pub more : List ℕ

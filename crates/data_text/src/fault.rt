@@ -15,6 +15,7 @@ pub enum DataError {
     /// It has no value.
     #[error("{0}")]
     Fault(DataFault),
+    /// There was no memory for the value.
     #[error("out of memory")]
     NoMemory,
 }

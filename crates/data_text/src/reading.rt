@@ -25,8 +25,11 @@ const LEVELS: u8 = 100;
 /// object repeats keeps its first place and takes the last value.
 ///
 /// The fault of another text is in line 1 where it is too long, and in the line of the first bad byte where it is not
-/// UTF-8; else in the first line such that nothing that begins with the lines up to it has a value; and in the last line
-/// where all lines could go on.
+/// UTF-8; else in the first line such that nothing that begins with the lines up to it has a value; and in the line of the
+/// last byte where all lines could go on, which is 1 in an empty text. A newline belongs to the line that it ends.
+///
+/// # Errors
+/// `DataError::Fault` where the text has no value, with that line, and `DataError::NoMemory` for want of memory.
 pub fn read_json(alloc: Global, text: &[u8]) -> Result<Value, DataError>
     ensures value { IfOk result (λ value. IsJson value text.now) }
     ensures fault { IfErr result (λ e. IsFault text.now e) }

@@ -142,7 +142,24 @@ fn texts_with_a_value(rt: HostRuntime) -> Result<(), Fail> {
 /// Cut texts, bad words, numbers, escapes and brackets, and what stands behind a value, with the lines of their faults.
 #[test]
 fn texts_without_a_value(rt: HostRuntime) -> Result<(), Fail> {
-    let rows: [(&[u8], u64); 116] = [
+    let rows: [(&[u8], u64); 133] = [
+        (b"{\"a\":1.5}", 1),
+        (b"-00", 1),
+        (b"-1.5", 1),
+        (b"0.5", 1),
+        (b"0e1", 1),
+        (b"[1,\n-9223372036854775809", 2),
+        (b"\"\\udc00\\udc00\"", 1),
+        (b"-\n1", 1),
+        (b"tru\ne", 1),
+        (b"\"\\u00\n41\"", 1),
+        (b"\"\\ud83d\n", 1),
+        (b"[1 2,\n3,\nx", 1),
+        (b"[x,\n}", 1),
+        (b"[1,\n2 3,\n\"\x01\"\n", 2),
+        (b"{\"a", 1),
+        (b"{\"a\":1,\n\"b\"", 2),
+        (b"[nul", 1),
         (b"", 1),
         (b" ", 1),
         (b"\n", 1),
@@ -298,8 +315,13 @@ fn texts_at_the_limits(rt: HostRuntime) -> Result<(), Fail> {
     assert!(rt; is_read(alloc, &nested(alloc, b'[', 100, b"", b']')?));
     assert!(rt; is_read(alloc, &nested(alloc, b'[', 99, b"{}", b']')?));
     assert!(rt; is_read(alloc, &nested(alloc, b'[', 100, b"1", b']')?));
-    assert!(rt; !is_read(alloc, &nested(alloc, b'[', 101, b"", b']')?));
-    assert!(rt; !is_read(alloc, &nested(alloc, b'[', 100, b"{}", b']')?));
+    for text in [
+        nested(alloc, b'[', 101, b"", b']')?,
+        nested(alloc, b'[', 100, b"{}", b']')?,
+        nested(alloc, b'[', 100_000, b"", b']')?,
+    ] {
+        assert_eq!(rt; told(alloc, &text)?.as_slice(), b"line 1".as_slice());
+    }
     let deep = told(alloc, &nested(alloc, b'[', 100, b"\n[", b']')?)?;
     assert_eq!(rt; deep.as_slice(), b"line 2".as_slice());
     assert!(rt; is_read(alloc, &nested(alloc, b' ', 2_097_151, b"12", b' ')?));
