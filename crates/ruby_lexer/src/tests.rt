@@ -319,7 +319,27 @@ const MARKS: [(&[u8], &[u8]); 22] = [
 ];
 
 /// Newlines, blanks, comments, the end, and bytes that are no UTF-8.
-const NEWLINES_AND_BLANKS: [(&[u8], &[u8]); 59] = [
+const NEWLINES_AND_BLANKS: [(&[u8], &[u8]); 79] = [
+    (b"{ | | 1 }", b"m:{ _m:| _m:| _1 _m:}"),
+    (b"def f(b!)", b"k:def _n:f m:( n:b! m:)"),
+    (b"x +=\n1", b"n:x _m:+= 1@2"),
+    (b"a.+\nb", b"n:a m:. m:+ n:b@2"),
+    (b"f *\na", b"n:f _m:* n:a@2"),
+    (b"f &\na", b"n:f _m:& n:a@2"),
+    (b"a...\nb", b"n:a m:... n:b@2"),
+    (b"A::\nB", b"C:A m::: C:B@2"),
+    (b"a&.\nb", b"n:a m:&. n:b@2"),
+    (b"=begin\n__END__\n=end\na", b"m:= k:begin nl"),
+    (b"\"\\x41\"", b"!1"),
+    (b"%w[a\r\nb]", b"w(a b)"),
+    (b":a!=b", b"y:a m:!= n:b"),
+    (b"alias", b"!1"),
+    (b"undef", b"!1"),
+    (b"redo", b"!1"),
+    (b"in", b"!1"),
+    (b"END", b"!1"),
+    (b"__ENCODING__", b"!1"),
+    (b"__LINE__ yield super", b"k:__LINE__ _k:yield _k:super"),
     (b"a;b", b"n:a nl n:b"),
     (b"puts 1\nend", b"n:puts _1 nl k:end@2"),
     (b"f { |x|\n y }", b"n:f _m:{ _m:| n:x m:| _n:y@2 _m:}@2"),
