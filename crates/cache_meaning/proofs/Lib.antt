@@ -1,0 +1,10 @@
+pub mod Prefixes
+pub mod Moments
+pub mod LeftOut
+pub mod Trust
+pub mod SmallDepths
+pub mod SmallDumps
+pub mod SmallInstructions
+pub mod SmallLines
+pub mod SmallSound
+pub mod SmallUnits
