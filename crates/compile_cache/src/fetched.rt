@@ -1,0 +1,21 @@
+//! What a fetch gives.
+use cache_key::Event;
+use iseq_types::Unit;
+
+/// What a fetch gives of a path.
+#[derive(Drop)]
+pub enum Got {
+    /// The file's unit.
+    Whole(Unit),
+    /// The file's text has no unit; this is the line at which the reader refused it.
+    Fault { line: u64 },
+    /// No file stands there.
+    Gone,
+}
+
+/// What a fetch gives, and what its load came to: nothing where the cache is off or no file stands there.
+#[derive(Drop)]
+pub struct Fetched {
+    pub event: Option<Event>,
+    pub got: Got,
+}

@@ -1,0 +1,15 @@
+//! Fetches compiled Ruby files through the cache.
+#![tactic(auto)]
+
+mod compiling;
+mod fetch;
+mod fetched;
+mod mode;
+mod shelf;
+mod small_units;
+#[cfg(test)]
+mod tests;
+
+pub use fetch::fetch_unit;
+pub use fetched::{Fetched, Got};
+pub use mode::{CacheUse, Mode};
