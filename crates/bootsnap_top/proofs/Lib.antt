@@ -1,2 +1,10 @@
 pub mod Integers
-pub mod Runs
+pub mod Sending
+pub mod KnownNames
+pub mod Slots
+pub mod SmallUnits
+pub mod CodeRuns
+pub mod CachedRuns
+pub mod Gots
+pub mod Plans
+pub mod FirstDesk

@@ -2,13 +2,13 @@ use Rattle.std.specs.Prelude.{ℕ, Option, None, Some, Result, Ok, Err, List, []
 use Rattle.std.specs.Fmt.{decimal}
 use Rattle.std.specs.FinMap as map
 use Rattle.bs_outside.specs.SourceTree.{SourceTree, bytes_at}
+use Rattle.compile_cache.specs.Fetching.{reads_of}
 use Rattle.ruby_reader.specs.SmallFile.{program_of}
 use Rattle.ruby_reader.specs.declared.tree.Program.{Program}
-use Rattle.bootsnap_top.specs.Plan.{plan_of}
+use Rattle.bootsnap_top.specs.Plan.{plan_of, path_of}
 use Rattle.bootsnap_top.specs.SmallRun.{Answer, run_lines}
 use Rattle.bootsnap_top.specs.declared.ending.Ending.TheVariants as ending
 use Rattle.bootsnap_top.specs.declared.planning.Planned.{Planned}
-use Rattle.bootsnap_top.specs.declared.planning.Planned.TheVariants as planned
 
 abbrev pub usage_text : ℕ → List ℕ
 usage_text place = codes "bootsnap: word " ++ (decimal place ++ 10 ∷ [])
@@ -31,22 +31,18 @@ answer_of_file path (Some text) = answer_of_program path (program_of text)
 
 abbrev pub answer_of_plan : SourceTree → Result Planned ℕ → Answer
 answer_of_plan tree (Err place) = usage_answer place
-answer_of_plan tree (Ok (planned.Run path)) = answer_of_file path (bytes_at tree path)
+answer_of_plan tree (Ok planned) = answer_of_file (path_of planned) (bytes_at tree (path_of planned))
 
 -- The answer to the words over a source tree: output, error text and ending. It knows no cache.
 abbrev pub answer_of : SourceTree → List (List ℕ) → Answer
 answer_of tree words = answer_of_plan tree (plan_of words)
 
--- the stats that the plan asks for: one, of the file that is run
-abbrev pub stats_of_plan : Result Planned ℕ → List (List ℕ)
-stats_of_plan (Err place) = []
-stats_of_plan (Ok (planned.Run path)) = path ∷ []
+-- the paths of the stats that the plan asks for: one, of the file that is run
+abbrev pub paths_of_plan : Result Planned ℕ → List (List ℕ)
+paths_of_plan (Err place) = []
+paths_of_plan (Ok planned) = path_of planned ∷ []
 
-abbrev pub reads_of_found : List ℕ → Option (List ℕ) → List (List ℕ)
-reads_of_found path None = []
-reads_of_found path (Some text) = path ∷ []
-
--- the reads that the plan asks for: one, of the file that is run, where it is there
+-- the reads that the plan asks for without the cache: one, of the file that is run, where it is there
 abbrev pub reads_of_plan : SourceTree → Result Planned ℕ → List (List ℕ)
 reads_of_plan tree (Err place) = []
-reads_of_plan tree (Ok (planned.Run path)) = reads_of_found path (bytes_at tree path)
+reads_of_plan tree (Ok planned) = reads_of tree (path_of planned)

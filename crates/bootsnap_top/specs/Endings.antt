@@ -1,4 +1,4 @@
-use Rattle.std.specs.Prelude.{ℕ, ◌≡◌, Result, Err, List, [], ◌∷◌}
+use Rattle.std.specs.Prelude.{ℕ, ◌≡◌, ◌<◌, Result, Err, List, [], ◌∷◌}
 use Rattle.bootsnap_top.specs.declared.ending.Ending.{Ending}
 use Rattle.bootsnap_top.specs.declared.ending.Ending.TheVariants as ending
 use Rattle.bootsnap_top.specs.declared.planning.PlanError.{PlanError}
@@ -52,9 +52,9 @@ OfFirst R [] news = Unit {0}
 OfFirst R (old ∷ olds) [] = Unit {0}
 OfFirst R (old ∷ olds) (new ∷ news) = R old new
 
--- an ending of a run: no bad word, no turns, no full store, and no input fault
+-- an ending of a run: no bad word, no turns, no full store, and no input fault; a number of its own is below 200
 abbrev pub IsOfRun : Ending → Type 0
-IsOfRun (ending.Exit code) = Unit {0}
+IsOfRun (ending.Exit code) = code < 200
 IsOfRun (ending.Usage place) = ⊥
 IsOfRun ending.NotYet = Unit {0}
 IsOfRun ending.TurnsSpent = ⊥
@@ -64,9 +64,9 @@ IsOfRun ending.InputFault = ⊥
 IsOfRun ending.SinkFault = Unit {0}
 IsOfRun ending.NoMemory = Unit {0}
 
--- an ending that a program has by itself
+-- an ending that a program has by itself, with a number below 200 or because it cannot be run yet
 abbrev pub IsOfProgram : Ending → Type 0
-IsOfProgram (ending.Exit code) = Unit {0}
+IsOfProgram (ending.Exit code) = code < 200
 IsOfProgram (ending.Usage place) = ⊥
 IsOfProgram ending.NotYet = Unit {0}
 IsOfProgram ending.TurnsSpent = ⊥
@@ -75,3 +75,15 @@ IsOfProgram ending.TreeFault = ⊥
 IsOfProgram ending.InputFault = ⊥
 IsOfProgram ending.SinkFault = ⊥
 IsOfProgram ending.NoMemory = ⊥
+
+-- an ending of a call that was cut off: a fault of a tree or a sink, or want of memory
+abbrev pub IsCutOff : Ending → Type 0
+IsCutOff (ending.Exit code) = ⊥
+IsCutOff (ending.Usage place) = ⊥
+IsCutOff ending.NotYet = ⊥
+IsCutOff ending.TurnsSpent = ⊥
+IsCutOff ending.StoreFull = ⊥
+IsCutOff ending.TreeFault = Unit {0}
+IsCutOff ending.InputFault = ⊥
+IsCutOff ending.SinkFault = Unit {0}
+IsCutOff ending.NoMemory = Unit {0}

@@ -1,4 +1,4 @@
-use Rattle.std.specs.Prelude.{◌≡◌, ℕ, ℤ, pos, negsuc, ◌+◌, ◌^◌, ◌+ℤ◌, ◌-ℤ◌, Bool, cond, nat_lt, unwrap_or, Option, None, Some, List, [], ◌∷◌, ◌++◌, codes}
+use Rattle.std.specs.Prelude.{ℕ, ℤ, pos, negsuc, ◌+◌, ◌^◌, ◌+ℤ◌, ◌-ℤ◌, Bool, cond, nat_lt, unwrap_or, Option, None, Some, List, [], ◌∷◌, ◌++◌, codes}
 use Rattle.std.specs.Fmt.{decimal, signed_decimal}
 use Rattle.std.specs.Ordering.{nat_cmp}
 use Rattle.std.specs.Cmp.Lexicographic.{slice_cmp}
@@ -70,15 +70,6 @@ ends_at path number = record { output = []; errors = out_of_range path number; e
 -- the run ends behind its last line
 abbrev pub ends_well : Answer
 ends_well = record { output = []; errors = []; ending = ending.Exit 0 }
-
-abbrev pub end_of : List ℕ → Option ℕ → Answer
-end_of path None = ends_well
-end_of path (Some number) = ends_at path number
-
--- The answer's error text and ending are those of a run that ends at this line, or behind the last one.
-pub record EndsAs (path : List ℕ) (at : Option ℕ) (answer : Answer) : Type 0 where
-  pub errors : answer.errors ≡ (end_of path at).errors
-  pub ending_is : answer.ending ≡ (end_of path at).ending
 
 -- what the line writes, or nothing where its sum is out of range
 abbrev pub line_piece : Values → Line → Option (List ℕ)

@@ -2,7 +2,9 @@
 ghost use Rattle.std.specs.Prelude.{◌≡◌, ◌≤◌, ◌++◌, IfOk, OnOk, OnErr, IsErrOf};
 ghost use Rattle.std.specs.String.{string_bytes};
 ghost use Rattle.bs_outside.specs.Told.{added, AddsPrefix, Rose};
+ghost use Rattle.std.specs.Fmt.{decimal};
 ghost use Rattle.bootsnap_top.specs.Answer.{usage_text, missing_text};
+ghost use Rattle.bootsnap_top.specs.SmallRun.{out_of_range};
 
 use bs_outside::{NoMemory, Sink, SinkFault, Text, put_all};
 use std::alloc::Global;
@@ -48,4 +50,32 @@ fn usage_text(alloc: Global, place: u64) -> Result<String, NoMemory>
     ensures { IfOk result (λ text. string_bytes text ≡ usage_text place) }
 {
     format!(in alloc; "bootsnap: word {place}\n")
+}
+
+/// Writes that a sum in the line with this number is out of range.
+#[tactic(auto, using(bs_outside::proofs::Owing::none_came))]
+pub fn say_out_of_range<O: Sink>(
+    alloc: Global,
+    err: &mut O,
+    path: &Text,
+    number: u64,
+) -> Result<(), SinkFault>
+    ensures ok { OnOk result (O.taken err.new ≡ added (O.taken err.old) (out_of_range path.now number)) }
+    ensures err { OnErr result (AddsPrefix (O.taken err.old) (O.taken err.new) (out_of_range path.now number)) }
+    ensures counted { O.faults err.old ≤ O.faults err.new }
+    ensures failed { IsErrOf result SinkFault.Failed → Rose (O.faults err.old) (O.faults err.new) }
+{
+    match out_of_range(alloc, path, number) {
+        Ok(text) => put_all(alloc, err, &text),
+        Err(_) => Err(SinkFault::NoMemory),
+    }
+}
+
+fn out_of_range(alloc: Global, path: &Text, number: u64) -> Result<Vec<u8>, NoMemory>
+    ensures { IfOk result (λ text. text.items ≡ out_of_range path.now number) }
+{
+    let mut text = Vec::from_slice(alloc, path.as_slice())?;
+    let place = format!(in alloc; ":{number}: integer out of range (RangeError)\n")?;
+    text.extend_from_slice(place.as_bytes())?;
+    Ok(text)
 }
