@@ -4,6 +4,8 @@
 ghost use Rattle.std.specs.Prelude.{◌≡◌, IfOk, vec_len};
 
 mod folder;
+#[cfg(test)]
+mod run_tests;
 mod shelf;
 mod streams;
 #[cfg(test)]
@@ -12,7 +14,7 @@ mod tests;
 use bootsnap_top::{Desk, Ending, bootsnap, status};
 use bs_outside::{Steps, Text};
 use folder::FolderTree;
-use mem_outside::NoShelf;
+use shelf::FolderShelf;
 use std::alloc::{AllocError, Global};
 use std::io::Stdin;
 use std::marker::Brand;
@@ -35,18 +37,18 @@ fn words<R: Env + AllocGlobal>(rt: &R, alloc: Global) -> io::Result<Vec<Text>> {
     Ok(words)
 }
 
+/// One worker's sight of the folder and of the cache in it.
+type FolderDesk<'a, R> = Desk<FolderTree<'a, R>, FolderShelf<'a, R>>;
+
 /// One desk for each worker, all over one folder.
-fn desks<R: Files>(
-    rt: &R,
-    alloc: Global,
-) -> Result<Vec<Desk<FolderTree<'_, R>, NoShelf>>, AllocError>
+fn desks<R: Files>(rt: &R, alloc: Global) -> Result<Vec<FolderDesk<'_, R>>, AllocError>
     ensures { IfOk result (λ desks. vec_len desks ≡ 16) }
 {
     let mut desks = Vec::new(alloc);
     for _ in 0..DESKS {
         let desk = Desk {
             tree: FolderTree::new(rt),
-            shelf: NoShelf::new(),
+            shelf: FolderShelf::new(rt, alloc),
         };
         desks.push(desk)?;
     }

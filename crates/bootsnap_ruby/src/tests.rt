@@ -14,14 +14,14 @@ use std::rt::{Env, Files};
 use std::{env, fs, io};
 
 /// Goes into a new folder, which is this test's own.
-fn enter<R: Env + Files + AllocGlobal>(rt: &R, folder: &str) -> io::Result<()> {
+pub fn enter<R: Env + Files + AllocGlobal>(rt: &R, folder: &str) -> io::Result<()> {
     let _ = fs::remove_dir_all(rt, folder);
     fs::create_dir(rt, folder)?;
     env::set_current_dir(rt, folder)
 }
 
 /// Goes back, and takes the folder away.
-fn leave<R: Env + Files + AllocGlobal>(rt: &R, folder: &str) -> io::Result<()> {
+pub fn leave<R: Env + Files + AllocGlobal>(rt: &R, folder: &str) -> io::Result<()> {
     env::set_current_dir(rt, "..")?;
     fs::remove_dir_all(rt, folder)
 }
