@@ -1,0 +1,4 @@
+pub mod Numbers
+pub mod Examples
+pub mod Opened
+pub mod Begins

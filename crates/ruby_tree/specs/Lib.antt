@@ -1,0 +1,13 @@
+pub mod Names
+pub mod Tree
+pub mod Rules
+pub mod Build
+pub mod Grammar
+pub mod Read
+pub mod Views
+pub mod Depth
+pub mod Placement
+pub mod Reading
+pub mod FaultLine
+pub mod NamesFit
+pub mod Programs

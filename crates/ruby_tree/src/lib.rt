@@ -1,0 +1,16 @@
+//! The syntax tree of a Ruby file, the names in it, and the grammar by which a text has a tree.
+#![tactic(auto)]
+
+mod names;
+mod node;
+mod program;
+
+pub use names::{Name, SymbolTable};
+pub use node::{
+    Assignment, Call, Collection, Control, Definition, Exit, Handler, Kind, Literal, Node, Param,
+    Target, TextPart, Variable,
+};
+pub use program::Program;
+
+#[cfg(test)]
+mod tests;
