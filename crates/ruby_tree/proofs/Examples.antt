@@ -5,7 +5,7 @@ use Rattle.ruby_lexer.specs.Pieces.{Kind, Toks, tok, name, integer, mark, newlin
 use Rattle.ruby_lexer.specs.Pieces as token
 use Rattle.ruby_tree.specs.Tree.{Spot, Tree, Params, at, statements, send, local, assign, to_local, no_more, more, without}
 use Rattle.ruby_tree.specs.Tree as tree
-use Rattle.ruby_tree.specs.Rules.{Scope, fresh, nowhere, next, front, is_kind_mark, begins_params, Do, own, mark_in, is_mark, assigns, product_marks, sum_marks, shift_marks, intersection_marks, union_marks, order_marks, equality_marks}
+use Rattle.ruby_tree.specs.Rules.{Scope, fresh, nowhere, next, front, is_kind_mark, begins_params, sets, goes_on, Do, own, mark_in, is_mark, assigns, product_marks, sum_marks, shift_marks, intersection_marks, union_marks, order_marks, equality_marks}
 use Rattle.ruby_tree.specs.Grammar.{Rels, Derives, derives, NoMark, NoWord, Primary, Minus, Arg, MethodName}
 use Rattle.ruby_tree.specs.Grammar as g
 use Rattle.ruby_tree.specs.FaultLine.{Header}
@@ -14,13 +14,13 @@ use Rattle.ruby_tree.proofs.Begins.{parameters_begin}
 
 module _ (source : Bytes) (R : Rels) where
   -- an operand of binary operators, before what does not go on with it
-  whole_operand : {d : Do} {w r : Toks} {s z : Scope} {t : Tree} → Minus source R d w s t r z → mark_in source product_marks r ≡ false → mark_in source sum_marks r ≡ false → mark_in source shift_marks r ≡ false → mark_in source intersection_marks r ≡ false → mark_in source union_marks r ≡ false → mark_in source order_marks r ≡ false → (mark_in source equality_marks r || is_mark source (codes "!=") r) ≡ false → NoMark source (codes "&&") r → NoMark source (codes "||") r → NoMark source (codes "..") r → NoMark source (codes "...") r → NoMark source (codes "?") r → assigns source r ≡ false → Arg source R d w s t r z
-  whole_operand p e2 e3 e4 e5 e6 e7 e8 e9 e10 e11 e12 e13 e14 =
-      g.Arg.plain (g.Conditional.plain (g.Range.plain (g.chain (g.chain (g.Equality.plain (g.chain (g.chain (g.chain (g.chain (g.chain (g.chain p (g.Rest.end e2)) (g.Rest.end e3)) (g.Rest.end e4)) (g.Rest.end e5)) (g.Rest.end e6)) (g.Rest.end e7)) e8) (g.Rest.end e9)) (g.Rest.end e10)) e11 e12) e13) e14
+  whole_operand : {d : Do} {w r : Toks} {s z : Scope} {t : Tree} → sets source w ≡ false → Minus source R d w s t r z → mark_in source product_marks r ≡ false → mark_in source sum_marks r ≡ false → mark_in source shift_marks r ≡ false → mark_in source intersection_marks r ≡ false → mark_in source union_marks r ≡ false → mark_in source order_marks r ≡ false → (mark_in source equality_marks r || is_mark source (codes "!=") r) ≡ false → NoMark source (codes "&&") r → NoMark source (codes "||") r → NoMark source (codes "..") r → NoMark source (codes "...") r → NoMark source (codes "?") r → assigns source r ≡ false → Arg source R d w s t r z
+  whole_operand e0 p e2 e3 e4 e5 e6 e7 e8 e9 e10 e11 e12 e13 e14 =
+      g.Arg.other e0 (g.Unset.plain (g.Conditional.plain (g.Range.plain (g.chain (g.chain (g.Equality.plain (g.chain (g.chain (g.chain (g.chain (g.chain (g.chain p (g.Rest.end e2)) (g.Rest.end e3)) (g.Rest.end e4)) (g.Rest.end e5)) (g.Rest.end e6)) (g.Rest.end e7)) e8) (g.Rest.end e9)) (g.Rest.end e10)) e11 e12) e13) e14)
 
   -- one that has no operator of its own
-  operand : {d : Do} {w r : Toks} {s z : Scope} {t : Tree} → Primary source R d w s t r z → NoMark source (codes "**") r → mark_in source product_marks r ≡ false → mark_in source sum_marks r ≡ false → mark_in source shift_marks r ≡ false → mark_in source intersection_marks r ≡ false → mark_in source union_marks r ≡ false → mark_in source order_marks r ≡ false → (mark_in source equality_marks r || is_mark source (codes "!=") r) ≡ false → NoMark source (codes "&&") r → NoMark source (codes "||") r → NoMark source (codes "..") r → NoMark source (codes "...") r → NoMark source (codes "?") r → assigns source r ≡ false → Arg source R d w s t r z
-  operand p e1 = whole_operand (g.Minus.plain (g.Power.plain (g.Tight.plain (g.postfix p g.Postfixes.end)) e1))
+  operand : {d : Do} {w r : Toks} {s z : Scope} {t : Tree} → sets source w ≡ false → Primary source R d w s t r z → goes_on source r ≡ false → NoMark source (codes "**") r → mark_in source product_marks r ≡ false → mark_in source sum_marks r ≡ false → mark_in source shift_marks r ≡ false → mark_in source intersection_marks r ≡ false → mark_in source union_marks r ≡ false → mark_in source order_marks r ≡ false → (mark_in source equality_marks r || is_mark source (codes "!=") r) ≡ false → NoMark source (codes "&&") r → NoMark source (codes "||") r → NoMark source (codes "..") r → NoMark source (codes "...") r → NoMark source (codes "?") r → assigns source r ≡ false → Arg source R d w s t r z
+  operand e0 p e p1 = whole_operand e0 (g.Minus.plain (g.Power.plain (g.Tight.plain (g.postfix p g.Postfixes.end) e) p1))
 
 -- a name is no mark
 no_mark : (k : Option Kind) (b : Bool) → k ≡ Some name → (is_kind_mark k && b) ≡ true → ⊥
@@ -55,9 +55,9 @@ puts_one_is = record {
   depth = 2;
   behind = fresh;
   derived =
-      g.Stmts.some refl (g.StmtList.last (g.head (g.Head.plain (g.tests (g.Test.plain (g.command (g.Command.named refl refl
-      (g.items (g.Items.elements (g.Elements.last (g.Element.plain
-      (operand puts_one (derives puts_one 0) (g.literal (g.number refl)) refl refl refl refl refl refl refl refl refl refl refl refl refl refl)))) refl)
+      g.Stmts.some refl (g.StmtList.last (g.head (g.Head.plain refl (g.tests (g.Test.plain (g.command (g.Command.named refl refl
+      (g.items (g.Items.element (g.Element.plain
+      (operand puts_one (derives puts_one 0) refl (g.literal (g.number refl)) refl refl refl refl refl refl refl refl refl refl refl refl refl refl refl))) refl refl)
       (g.CommandBlock.missing refl)))) (g.Tests.end refl refl))) (g.Modifiers.end refl)) refl);
 }
 
@@ -80,11 +80,11 @@ saved_value_is = record {
   depth = 3;
   behind = record { locals = codes "x" ∷ []; clause = false };
   derived =
-      g.Stmts.some refl (g.StmtList.last (g.head (g.Head.plain (g.tests (g.Test.plain (g.CommandOrArg.arg
+      g.Stmts.some refl (g.StmtList.last (g.head (g.Head.plain refl (g.tests (g.Test.plain (g.CommandOrArg.arg
       (g.Arg.variable refl refl (g.Value.saved
-      (g.CommandOrArg.arg (operand saved_value (derives saved_value 0) (g.bare_name refl refl refl refl refl) refl refl refl refl refl refl refl refl refl refl refl refl refl refl))
+      (g.CommandOrArg.arg (operand saved_value (derives saved_value 1) refl (g.bare_name refl refl refl refl refl) refl refl refl refl refl refl refl refl refl refl refl refl refl refl refl))
       refl
-      (operand saved_value (derives saved_value 0) (g.literal (g.number refl)) refl refl refl refl refl refl refl refl refl refl refl refl refl refl)))))
+      (operand saved_value (derives saved_value 1) refl (g.literal (g.number refl)) refl refl refl refl refl refl refl refl refl refl refl refl refl refl refl)))))
       (g.Tests.end refl refl))) (g.Modifiers.end refl)) refl);
 }
 
@@ -104,10 +104,10 @@ block_of_command_is = record {
   depth = 2;
   behind = fresh;
   derived =
-      g.Stmts.some refl (g.StmtList.last (g.head (g.Head.plain (g.tests (g.Test.plain (g.command (g.Command.named refl refl
-      (g.items (g.Items.elements (g.Elements.last (g.Element.plain
-      (operand block_of_command (derives block_of_command 0) (g.bare_name refl refl refl refl refl) refl refl refl refl refl refl refl refl refl refl refl refl refl refl)))) refl)
-      (g.CommandBlock.given refl refl (g.block refl (g.Bars.missing refl) (g.Body.plain (g.Rescued.plain (g.Stmts.none refl) refl) refl) refl)))))
+      g.Stmts.some refl (g.StmtList.last (g.head (g.Head.plain refl (g.tests (g.Test.plain (g.command (g.Command.named refl refl
+      (g.items (g.Items.element (g.Element.plain
+      (operand block_of_command (derives block_of_command 0) refl (g.bare_name refl refl refl refl refl) refl refl refl refl refl refl refl refl refl refl refl refl refl refl refl))) refl refl)
+      (g.CommandBlock.given refl refl (g.block refl (g.Bars.missing refl) (g.Body.plain (g.Rescued.plain (g.Stmts.none refl refl) refl) refl) refl)))))
       (g.Tests.end refl refl))) (g.Modifiers.end refl)) refl);
 }
 
@@ -127,9 +127,9 @@ sent_minus_is = record {
   depth = 4;
   behind = record { locals = codes "x" ∷ []; clause = false };
   derived =
-      g.Stmts.some refl (g.StmtList.last (g.head (g.Head.plain (g.tests (g.Test.plain (g.CommandOrArg.arg
+      g.Stmts.some refl (g.StmtList.last (g.head (g.Head.plain refl (g.tests (g.Test.plain (g.CommandOrArg.arg
       (g.Arg.variable refl refl (g.Value.plain (g.CommandOrArg.arg
-      (whole_operand sent_minus (derives sent_minus 1) (g.Minus.minus refl refl (g.Minus.plain (g.Power.plain (g.Tight.plain (g.postfix (g.literal (g.number refl)) g.Postfixes.end)) refl))) refl refl refl refl refl refl refl refl refl refl refl refl refl)) refl))))
+      (whole_operand sent_minus (derives sent_minus 2) refl (g.Minus.minus refl refl (g.Minus.plain (g.Power.plain (g.Tight.plain (g.postfix (g.literal (g.number refl)) g.Postfixes.end) refl) refl))) refl refl refl refl refl refl refl refl refl refl refl refl refl)) refl))))
       (g.Tests.end refl refl))) (g.Modifiers.end refl)) refl);
 }
 

@@ -1,5 +1,5 @@
 -- The trees that the grammar makes of the trees of its parts.
-use Rattle.std.specs.Prelude.{ℕ, Bool, true, false, ◌&&◌, List, [], ◌∷◌, ◌++◌, if◌then◌else◌, None, codes}
+use Rattle.std.specs.Prelude.{ℕ, Bool, true, false, ◌&&◌, List, [], ◌∷◌, ◌++◌, if◌then◌else◌, Option, Some, None, codes}
 use Rattle.ruby_lexer.specs.Bytes.{Bytes, same}
 use Rattle.ruby_lexer.specs.Pieces.{Toks}
 use Rattle.ruby_tree.specs.Tree.{Spot, Goal, to_local, to_instance, to_global, to_constant, Tree, at, Form, symbol, text, local, instance, global, constant_path, send, safe_send, bare_raise, statements, both, either, rescue, ensure, rescue_sequence, body, Trees, no_more, more, Other, without, with, no_clause, clause, no_param, required}
@@ -28,9 +28,10 @@ abbrev pub spread_at : Bool → ℕ → List ℕ → List ℕ
 spread_at true k ks = k ∷ ks
 spread_at false k ks = ks
 
-abbrev pub is_symbol : Tree → Bool
-is_symbol (at o (symbol f)) = true
-is_symbol _ = false
+-- the name of a symbol
+abbrev pub symbol_of : Tree → Option Bytes
+symbol_of (at o (symbol f)) = Some f
+symbol_of _ = None
 
 -- statements, or those with clauses
 abbrev pub is_body : Tree → Bool

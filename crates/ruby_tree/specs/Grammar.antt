@@ -5,8 +5,8 @@ use Rattle.ruby_lexer.specs.Forms.{text_of}
 use Rattle.ruby_lexer.specs.Pieces.{Parts, Toks}
 use Rattle.ruby_lexer.specs.Pieces as token
 use Rattle.ruby_tree.specs.Tree.{Spot, Goal, to_constant, Tree, at, nil_value, true_value, false_value, integer, symbol, text, self_value, file_name, folder_name, line_number, local, instance, global, joined, array, hash, range, constant_path, assign, assign_all, assign_attribute, assign_index, operate_attribute, or_attribute, and_attribute, operate_index, or_index, and_index, send, yield, super, bare_super, statements, both, either, negated, if_else, while_loop, case_of, case_tests, return_with, break_with, next_with, retry, rescue, ensure, rescue_sequence, ensure_sequence, method, class, module_named, body, Trees, no_more, more, trees_then, Other, without, with, Pairs, no_pair, pair, Pieces, no_piece, plain_piece, code_piece, Whens, no_when, when, Rescues, no_clause, clause, Params, no_param, required, optional, rest_param, block_param}
-use Rattle.ruby_tree.specs.Rules.{Scope, fresh, is_local, declare, declared, in_clause, outside_clause, behind, next, front, blank, touches_next, line_at, spot, spot_with, nowhere, is_kind_newline, modifiers, method_marks, sending_assignments, product_marks, sum_marks, shift_marks, intersection_marks, union_marks, order_marks, equality_marks, but_last, Do, own, loops, in_arguments, within, call_takes, command_takes, word, mark_in, word_in, is_mark, is_word, begins_arguments, is_command, opens, opens_block, opens_do, is_negative, assigns, begins_params, goal_at}
-use Rattle.ruby_tree.specs.Build.{Given, nothing, has_block, spread_at, is_symbol, is_body, one, alone, or_empty, read_form, call_form, sent, bare_form, path_with, symbol_block, rescued, texts_at, symbols_at, binary, conjunction, disjunction}
+use Rattle.ruby_tree.specs.Rules.{Scope, fresh, is_local, declare, declared, in_clause, outside_clause, behind, next, front, blank, touches_next, line_at, spot, spot_with, nowhere, is_kind_newline, modifiers, method_marks, sending_assignments, product_marks, sum_marks, shift_marks, intersection_marks, union_marks, order_marks, equality_marks, but_last, Do, own, loops, in_arguments, within, call_takes, command_takes, word, mark_in, word_in, is_mark, is_word, begins_arguments, begins_arg, begins_value, begins_statement, begins_targets, sets, goes_on, is_command, opens, opens_block, opens_do, is_negative, assigns, begins_params, goal_at}
+use Rattle.ruby_tree.specs.Build.{Given, nothing, has_block, spread_at, symbol_of, is_body, one, alone, or_empty, read_form, call_form, sent, bare_form, path_with, symbol_block, rescued, texts_at, symbols_at, binary, conjunction, disjunction}
 
 -- A symbol of the grammar: the tokens, the locals before, what is derived, the tokens behind it, and the locals behind.
 abbrev pub Rel : Type 0 → Type 1
@@ -17,10 +17,14 @@ pub record Rels : Type 1 where
   pub stmts : Do → Rel Tree
   pub expr : Do → Rel Tree
   pub test : Do → Rel Tree
+  -- a command or an argument
+  pub whole : Do → Rel Tree
   pub arg : Do → Rel Tree
   pub minus : Do → Rel Tree
   pub power : Do → Rel Tree
   pub tight : Do → Rel Tree
+  -- what follows where the condition of an `if` does not hold
+  pub elses : Do → Rel Other
 
 module _ (source : Bytes) where
   -- the first token is this mark, this word, or a newline
@@ -130,33 +134,29 @@ module _ (source : Bytes) where
 
     -- What stands behind `&`: a block value. Exactly one symbol is a block that calls the method of that name.
     pub data Passed (d : Do) : Toks → Scope → Other → Other → Toks → Scope → Type 0 where
-      value : {w r : Toks} {s z : Scope} {a : Tree} → Mark (codes "&") w → R.arg d (next w) s a r z → is_symbol a ≡ false → Passed d w s (with a) without r z
-      named : {w : Toks} {s : Scope} {m : Bytes} → Mark (codes "&") w → front (next w) ≡ Some (token.symbol m) → Passed d w s without (with (symbol_block w m)) (next (next w)) s
+      value : {w r : Toks} {s z : Scope} {a : Tree} → Mark (codes "&") w → R.arg d (next w) s a r z → symbol_of a ≡ None → Passed d w s (with a) without r z
+      named : {w r : Toks} {s z : Scope} {a : Tree} {m : Bytes} → Mark (codes "&") w → R.arg d (next w) s a r z → symbol_of a ≡ Some m → Passed d w s without (with (symbol_block w m)) r z
 
-    -- The last items: pairs, which make one hash, and what is passed behind `&`.
-    pub data LastItems (d : Do) : Toks → Scope → Trees → Other → Other → Toks → Scope → Type 0 where
-      pairs : {w r : Toks} {s z : Scope} {ps : Pairs} → PairList d w s ps r z → LastItems d w s (one (at (spot w) (hash ps))) without without r z
-      pairs_and_passed : {w q r : Toks} {s y z : Scope} {ps : Pairs} {v b : Other} → PairList d w s ps q y → Mark (codes ",") q → Passed d (next q) y v b r z → LastItems d w s (one (at (spot w) (hash ps))) v b r z
-      passed : {w r : Toks} {s z : Scope} {v b : Other} → Passed d w s v b r z → LastItems d w s no_more v b r z
-
-    -- The items of a call: elements, then the last items.
-    pub data Items (d : Do) : Toks → Scope → Given → Toks → Scope → Type 0 where
-      elements : {w r : Toks} {s z : Scope} {ts : Trees} {ks : List ℕ} → Elements d 0 w s ts ks r z → Items d w s (record { trees = ts; spread = ks; value = without; block = without }) r z
-      elements_and_last : {w q r : Toks} {s y z : Scope} {ts us : Trees} {ks : List ℕ} {v b : Other} → Elements d 0 w s ts ks q y → Mark (codes ",") q → LastItems d (next q) y us v b r z → Items d w s (record { trees = trees_then ts us; spread = ks; value = v; block = b }) r z
-      last : {w r : Toks} {s z : Scope} {us : Trees} {v b : Other} → LastItems d w s us v b r z → Items d w s (record { trees = us; spread = []; value = v; block = b }) r z
+    -- The items of a call from the k-th on: elements, then pairs, which make one hash, then what is passed behind `&`.
+    pub data Items (d : Do) : ℕ → Toks → Scope → Given → Toks → Scope → Type 0 where
+      element : {k : ℕ} {b : Bool} {w r : Toks} {s z : Scope} {a : Tree} → Element d b w s a r z → Items d k w s (record { trees = one a; spread = spread_at b k []; value = without; block = without }) r z
+      another : {k : ℕ} {b : Bool} {w q r : Toks} {s y z : Scope} {a : Tree} {g : Given} → Element d b w s a q y → Mark (codes ",") q → Items d (suc k) (next q) y g r z → Items d k w s (record { trees = more a g.trees; spread = spread_at b k g.spread; value = g.value; block = g.block }) r z
+      pairs : {k : ℕ} {w r : Toks} {s z : Scope} {ps : Pairs} → PairList d w s ps r z → Items d k w s (record { trees = one (at (spot w) (hash ps)); spread = []; value = without; block = without }) r z
+      pairs_and_passed : {k : ℕ} {w q r : Toks} {s y z : Scope} {ps : Pairs} {v b : Other} → PairList d w s ps q y → Mark (codes ",") q → Passed d (next q) y v b r z → Items d k w s (record { trees = one (at (spot w) (hash ps)); spread = []; value = v; block = b }) r z
+      passed : {k : ℕ} {w r : Toks} {s z : Scope} {v b : Other} → Passed d w s v b r z → Items d k w s (record { trees = no_more; spread = []; value = v; block = b }) r z
 
     -- items in brackets
     pub data InBrackets : Toks → Scope → Given → Toks → Scope → Type 0 where
       empty : {w : Toks} {s : Scope} → Mark (codes "(") w → Mark (codes ")") (next w) → InBrackets w s nothing (next (next w)) s
-      full : {w q r : Toks} {s z : Scope} {g : Given} → Mark (codes "(") w → Items own (next w) s g q z → Trailing q r → Mark (codes ")") r → InBrackets w s g (next r) z
+      full : {w q r : Toks} {s z : Scope} {g : Given} → Mark (codes "(") w → Items own 0 (next w) s g q z → Trailing q r → Mark (codes ")") r → InBrackets w s g (next r) z
 
-    -- Items without brackets. A comma goes on with the innermost command.
+    -- Items without brackets. A comma and an arrow go on with the innermost command.
     pub data CommandItems (d : Do) : Toks → Scope → Given → Toks → Scope → Type 0 where
-      items : {w r : Toks} {s z : Scope} {g : Given} → Items (in_arguments d) w s g r z → NoMark (codes ",") r → CommandItems d w s g r z
+      items : {w r : Toks} {s z : Scope} {g : Given} → Items (in_arguments d) 0 w s g r z → NoMark (codes ",") r → NoMark (codes "=>") r → CommandItems d w s g r z
 
     -- The classes of a rescue clause, if there are any.
     pub data Classes (d : Do) : Toks → Scope → Trees → Toks → Scope → Type 0 where
-      missing : {w : Toks} {s : Scope} → Classes d w s no_more w s
+      missing : {w : Toks} {s : Scope} → begins_arg source w ≡ false → Classes d w s no_more w s
       given : {w r : Toks} {s z : Scope} {ts : Trees} → Several d w s ts r z → Classes d w s ts r z
 
     -- A rescue clause is one from its first word to its end.
@@ -212,7 +212,7 @@ module _ (source : Bytes) where
 
     -- what follows where the condition of an `if` does not hold
     pub data Elses (d : Do) : Toks → Scope → Other → Toks → Scope → Type 0 where
-      elsif : {w q v p r : Toks} {s y x z : Scope} {c t : Tree} {e : Other} → Word (codes "elsif") w → R.expr d (next w) s c q y → Then q v → R.stmts d v y t p x → Elses d p x e r z → Elses d w s (with (at (spot w) (if_else c t e))) r z
+      elsif : {w q v p r : Toks} {s y x z : Scope} {c t : Tree} {e : Other} → Word (codes "elsif") w → R.expr d (next w) s c q y → Then q v → R.stmts d v y t p x → R.elses d p x e r z → Elses d w s (with (at (spot w) (if_else c t e))) r z
       other : {w r : Toks} {s z : Scope} {e : Other} → NoWord (codes "elsif") w → Else d w s e r z → Elses d w s e r z
 
     pub data WhenList (d : Do) : Toks → Scope → Whens → Toks → Scope → Type 0 where
@@ -297,9 +297,9 @@ module _ (source : Bytes) where
       called_yield : {w r : Toks} {s z : Scope} {g : Given} → Word (codes "yield") w → opens source (next w) ≡ true → InBrackets (next w) s g r z → has_block g ≡ false → Primary d w s (at (spot w) (yield g.trees g.spread)) r z
       super_alone : {w r : Toks} {s z : Scope} {b : Other} → Word (codes "super") w → opens source (next w) ≡ false → begins_arguments source (next w) ≡ false → CallBlock d nothing (next w) s b r z → Primary d w s (at (spot w) (bare_super b)) r z
       called_super : {w q r : Toks} {s y z : Scope} {g : Given} {b : Other} → Word (codes "super") w → opens source (next w) ≡ true → InBrackets (next w) s g q y → CallBlock d g q y b r z → Primary d w s (at (spot w) (super g.trees g.spread g.value b)) r z
-      if_form : {w q v p r : Toks} {s y x z : Scope} {c t : Tree} {e : Other} → Word (codes "if") w → R.expr (within d) (next w) s c q y → Then q v → R.stmts (within d) v y t p x → Elses (within d) p x e r z → Word (codes "end") r → Primary d w s (at (spot w) (if_else c t e)) (next r) z
+      if_form : {w q v p r : Toks} {s y x z : Scope} {c t : Tree} {e : Other} → Word (codes "if") w → R.expr (within d) (next w) s c q y → Then q v → R.stmts (within d) v y t p x → R.elses (within d) p x e r z → Word (codes "end") r → Primary d w s (at (spot w) (if_else c t e)) (next r) z
       -- an `if` with its parts swapped
-      unless_form : {w q v p r : Toks} {s y x z : Scope} {c t : Tree} {e : Other} → Word (codes "unless") w → R.expr (within d) (next w) s c q y → Then q v → R.stmts (within d) v y t p x → Elses (within d) p x e r z → Word (codes "end") r → Primary d w s (at (spot w) (if_else c (or_empty e) (with t))) (next r) z
+      unless_form : {w q v p r : Toks} {s y x z : Scope} {c t : Tree} {e : Other} → Word (codes "unless") w → R.expr (within d) (next w) s c q y → Then q v → R.stmts (within d) v y t p x → R.elses (within d) p x e r z → Word (codes "end") r → Primary d w s (at (spot w) (if_else c (or_empty e) (with t))) (next r) z
       -- In the condition of a loop a `do` is the loop's.
       while_form : {w q v r : Toks} {s y z : Scope} {c t : Tree} → Word (codes "while") w → R.expr loops (next w) s c q y → LoopStart q v → R.stmts (within d) v y t r z → Word (codes "end") r → Primary d w s (at (spot w) (while_loop t c false false)) (next r) z
       until_form : {w q v r : Toks} {s y z : Scope} {c t : Tree} → Word (codes "until") w → R.expr loops (next w) s c q y → LoopStart q v → R.stmts (within d) v y t r z → Word (codes "end") r → Primary d w s (at (spot w) (while_loop t c true false)) (next r) z
@@ -318,9 +318,9 @@ module _ (source : Bytes) where
     -- What may stand behind an operand that begins at o: `.` and a name that is no command, `::` and a constant, and an index, with no blank
     -- before it and no comma before its end.
     pub data Postfixes (d : Do) (o : Toks) : Tree → Toks → Scope → Tree → Toks → Scope → Type 0 where
-      called : {k : Bool} {w v p r : Toks} {s y z : Scope} {a t : Tree} {m : Bytes} {g : Given} {b : Other} → Dot k w → MethodName false (next w) m v → begins_arguments source v ≡ false → CallItems d v s g b p y → Postfixes d o (at (spot_with o (next w)) (call_form k a g m b)) p y t r z → Postfixes d o a w s t r z
+      called : {k : Bool} {w v p r : Toks} {s y z : Scope} {a t : Tree} {m : Bytes} {g : Given} {b : Other} → Dot k w → MethodName false (next w) m v → begins_arguments source v ≡ false → assigns source v ≡ false → CallItems d v s g b p y → Postfixes d o (at (spot_with o (next w)) (call_form k a g m b)) p y t r z → Postfixes d o a w s t r z
       constant : {w r : Toks} {s z : Scope} {a t : Tree} → Mark (codes "::") w → front (next w) ≡ Some token.constant → Postfixes d o (path_with o a (word source (next w))) (next (next w)) s t r z → Postfixes d o a w s t r z
-      index : {w p r : Toks} {s y z : Scope} {a t : Tree} {g : Given} → Mark (codes "[") w → blank w ≡ false → Items own (next w) s g p y → Mark (codes "]") p → Postfixes d o (at (spot_with o w) (send (with a) g.trees g.spread g.value (codes "[]") false g.block)) (next p) y t r z → Postfixes d o a w s t r z
+      index : {w p r : Toks} {s y z : Scope} {a t : Tree} {g : Given} → Mark (codes "[") w → blank w ≡ false → Items own 0 (next w) s g p y → Mark (codes "]") p → assigns source (next p) ≡ false → Postfixes d o (at (spot_with o w) (send (with a) g.trees g.spread g.value (codes "[]") false g.block)) (next p) y t r z → Postfixes d o a w s t r z
       end : {w : Toks} {s : Scope} {a : Tree} → Postfixes d o a w s a w s
 
     pub data Postfix (d : Do) : Toks → Scope → Tree → Toks → Scope → Type 0 where
@@ -331,7 +331,7 @@ module _ (source : Bytes) where
       inverted : {w r : Toks} {s z : Scope} {a : Tree} → Mark (codes "!") w → R.tight d (next w) s a r z → Tight d w s (sent (spot w) a (codes "!") no_more) r z
       complement : {w r : Toks} {s z : Scope} {a : Tree} → Mark (codes "~") w → R.tight d (next w) s a r z → Tight d w s (sent (spot w) a (codes "~") no_more) r z
       positive : {w r : Toks} {s z : Scope} {a : Tree} → Mark (codes "+") w → R.tight d (next w) s a r z → Tight d w s (sent (spot w) a (codes "+@") no_more) r z
-      plain : {w r : Toks} {s z : Scope} {a : Tree} → Postfix d w s a r z → Tight d w s a r z
+      plain : {w r : Toks} {s z : Scope} {a : Tree} → Postfix d w s a r z → goes_on source r ≡ false → Tight d w s a r z
 
     -- `**`, to the right
     pub data Power (d : Do) : Toks → Scope → Tree → Toks → Scope → Type 0 where
@@ -394,30 +394,40 @@ module _ (source : Bytes) where
 
     -- The values of `return`, `break` and `next`. A modifier's word directly behind begins none.
     pub data Values (d : Do) : Toks → Scope → Trees → Toks → Scope → Type 0 where
-      missing : {w : Toks} {s : Scope} → Values d w s no_more w s
+      missing : {w : Toks} {s : Scope} → begins_value source w ≡ false → Values d w s no_more w s
       given : {w r : Toks} {s z : Scope} {ts : Trees} → word_in source modifiers w ≡ false → Several d w s ts r z → Values d w s ts r z
 
     -- Calls without brackets: of a name that is no local, of a method behind `.` or `&.`, of `yield` and of `super`; and `return`, `break` and
     -- `next`. The arguments take no `do`, unless they are those of the last three.
     pub data Command (d : Do) : Toks → Scope → Tree → Toks → Scope → Type 0 where
       named : {w q r : Toks} {s y z : Scope} {g : Given} {b : Other} → front w ≡ Some token.name → is_command source s (word source w) (next w) ≡ true → CommandItems d (next w) s g q y → CommandBlock d g q y b r z → Command d w s (at (spot w) (send without g.trees g.spread g.value (word source w) false b)) r z
-      called : {k : Bool} {w q v p r : Toks} {s y x z : Scope} {a : Tree} {m : Bytes} {g : Given} {b : Other} → Postfix d w s a q y → Dot k q → MethodName false (next q) m v → begins_arguments source v ≡ true → CommandItems d v y g p x → CommandBlock d g p x b r z → Command d w s (at (spot_with w (next q)) (call_form k a g m b)) r z
+      called : {k : Bool} {w q v p r : Toks} {s y x z : Scope} {a : Tree} {m : Bytes} {g : Given} {b : Other} → sets source w ≡ false → Postfix d w s a q y → Dot k q → MethodName false (next q) m v → begins_arguments source v ≡ true → CommandItems d v y g p x → CommandBlock d g p x b r z → Command d w s (at (spot_with w (next q)) (call_form k a g m b)) r z
       yielded : {w r : Toks} {s z : Scope} {g : Given} → Word (codes "yield") w → begins_arguments source (next w) ≡ true → CommandItems d (next w) s g r z → has_block g ≡ false → Command d w s (at (spot w) (yield g.trees g.spread)) r z
       super_with : {w q r : Toks} {s y z : Scope} {g : Given} {b : Other} → Word (codes "super") w → begins_arguments source (next w) ≡ true → CommandItems d (next w) s g q y → CommandBlock d g q y b r z → Command d w s (at (spot w) (super g.trees g.spread g.value b)) r z
       returned : {w r : Toks} {s z : Scope} {ts : Trees} → Word (codes "return") w → Values d (next w) s ts r z → Command d w s (at (spot w) (return_with ts)) r z
       broken : {w r : Toks} {s z : Scope} {ts : Trees} → Word (codes "break") w → Values d (next w) s ts r z → Command d w s (at (spot w) (break_with ts)) r z
       nexted : {w r : Toks} {s z : Scope} {ts : Trees} → Word (codes "next") w → Values d (next w) s ts r z → Command d w s (at (spot w) (next_with ts)) r z
 
-    pub data CommandOrArg (d : Do) : Toks → Scope → Tree → Toks → Scope → Type 0 where
-      command : {w r : Toks} {s z : Scope} {t : Tree} → Command d w s t r z → CommandOrArg d w s t r z
-      arg : {w r : Toks} {s z : Scope} {t : Tree} → R.arg d w s t r z → CommandOrArg d w s t r z
-
     -- The value of an assignment. A `rescue` directly behind it is its own, and what stands behind that word is a rescue clause.
     pub data Value (d : Do) : Toks → Scope → Tree → Toks → Scope → Type 0 where
-      plain : {w r : Toks} {s z : Scope} {t : Tree} → CommandOrArg d w s t r z → NoWord (codes "rescue") r → Value d w s t r z
-      saved : {w q r : Toks} {s y z : Scope} {a b : Tree} → CommandOrArg d w s a q y → Word (codes "rescue") q → R.arg d (next q) (in_clause y) b r z → Value d w s (rescued w q a b) r (behind y z)
+      plain : {w r : Toks} {s z : Scope} {t : Tree} → R.whole d w s t r z → NoWord (codes "rescue") r → Value d w s t r z
+      saved : {w q r : Toks} {s y z : Scope} {a b : Tree} → R.whole d w s a q y → Word (codes "rescue") q → R.arg d (next q) (in_clause y) b r z → Value d w s (rescued w q a b) r (behind y z)
 
-    -- Assignments, and operators without one. What is set was read with nothing around it, and `=` or an operator with `=` stands next.
+    -- An argument that sets no variable and no constant: an attribute or an element that is set, which was read with nothing around it, or
+    -- operators without an assignment.
+    pub data Unset (d : Do) : Toks → Scope → Tree → Toks → Scope → Type 0 where
+      attribute : {w q r : Toks} {s y z : Scope} {a v : Tree} → Postfix d w s a q y → Mark (codes ".") q → front (next q) ≡ Some token.name → Mark (codes "=") (next (next q)) → Value d (next (next (next q))) y v r z → Unset d w s (at (spot_with w (next q)) (assign_attribute a v (word source (next q) ++ codes "="))) r z
+      operated_attribute : {w q r : Toks} {s y z : Scope} {a v : Tree} → Postfix d w s a q y → Mark (codes ".") q → front (next q) ≡ Some token.name → mark_in source sending_assignments (next (next q)) ≡ true → Value d (next (next (next q))) y v r z →
+          Unset d w s (at (spot_with w (next q)) (operate_attribute a (word source (next q)) v (but_last (word source (next (next q)))) (word source (next q) ++ codes "=") (line_at (next (next q))))) r z
+      either_attribute : {w q r : Toks} {s y z : Scope} {a v : Tree} → Postfix d w s a q y → Mark (codes ".") q → front (next q) ≡ Some token.name → Mark (codes "||=") (next (next q)) → Value d (next (next (next q))) y v r z → Unset d w s (at (spot_with w (next q)) (or_attribute a (word source (next q)) v (word source (next q) ++ codes "="))) r z
+      both_attribute : {w q r : Toks} {s y z : Scope} {a v : Tree} → Postfix d w s a q y → Mark (codes ".") q → front (next q) ≡ Some token.name → Mark (codes "&&=") (next (next q)) → Value d (next (next (next q))) y v r z → Unset d w s (at (spot_with w (next q)) (and_attribute a (word source (next q)) v (word source (next q) ++ codes "="))) r z
+      element : {w q p r : Toks} {s y x z : Scope} {a i v : Tree} → Postfix d w s a q y → Mark (codes "[") q → blank q ≡ false → R.arg own (next q) y i p x → Mark (codes "]") p → Mark (codes "=") (next p) → Value d (next (next p)) x v r z → Unset d w s (at (spot_with w q) (assign_index a i v)) r z
+      operated_element : {w q p r : Toks} {s y x z : Scope} {a i v : Tree} → Postfix d w s a q y → Mark (codes "[") q → blank q ≡ false → R.arg own (next q) y i p x → Mark (codes "]") p → mark_in source sending_assignments (next p) ≡ true → Value d (next (next p)) x v r z → Unset d w s (at (spot_with w q) (operate_index a i v (but_last (word source (next p))) (line_at (next p)))) r z
+      either_element : {w q p r : Toks} {s y x z : Scope} {a i v : Tree} → Postfix d w s a q y → Mark (codes "[") q → blank q ≡ false → R.arg own (next q) y i p x → Mark (codes "]") p → Mark (codes "||=") (next p) → Value d (next (next p)) x v r z → Unset d w s (at (spot_with w q) (or_index a i v)) r z
+      both_element : {w q p r : Toks} {s y x z : Scope} {a i v : Tree} → Postfix d w s a q y → Mark (codes "[") q → blank q ≡ false → R.arg own (next q) y i p x → Mark (codes "]") p → Mark (codes "&&=") (next p) → Value d (next (next p)) x v r z → Unset d w s (at (spot_with w q) (and_index a i v)) r z
+      plain : {w r : Toks} {s z : Scope} {t : Tree} → Conditional d w s t r z → assigns source r ≡ false → Unset d w s t r z
+
+    -- Assignments, and operators without one. A variable or a constant is set where `=` or an operator with `=` stands behind it.
     pub data Arg (d : Do) : Toks → Scope → Tree → Toks → Scope → Type 0 where
       variable : {w r : Toks} {s z : Scope} {g : Goal} {v : Tree} → goal_at source w ≡ Some g → Mark (codes "=") (next w) → Value d (next (next w)) (declared g s) v r z → Arg d w s (at (spot w) (assign v g)) r z
       -- `x op= v` is `x = x op v`
@@ -427,16 +437,11 @@ module _ (source : Bytes) where
       both_variable : {w r : Toks} {s z : Scope} {g : Goal} {v : Tree} → goal_at source w ≡ Some g → Mark (codes "&&=") (next w) → Value d (next (next w)) (declared g s) v r z → Arg d w s (at (spot w) (both (at (spot w) (read_form g)) (at (spot w) (assign v g)))) r z
       -- a constant takes `=` alone
       constant : {w r : Toks} {s z : Scope} {v : Tree} → front w ≡ Some token.constant → Mark (codes "=") (next w) → Value d (next (next w)) s v r z → Arg d w s (at (spot w) (assign v (to_constant (word source w)))) r z
-      attribute : {w q r : Toks} {s y z : Scope} {a v : Tree} → Postfix d w s a q y → Mark (codes ".") q → front (next q) ≡ Some token.name → Mark (codes "=") (next (next q)) → Value d (next (next (next q))) y v r z → Arg d w s (at (spot_with w (next q)) (assign_attribute a v (word source (next q) ++ codes "="))) r z
-      operated_attribute : {w q r : Toks} {s y z : Scope} {a v : Tree} → Postfix d w s a q y → Mark (codes ".") q → front (next q) ≡ Some token.name → mark_in source sending_assignments (next (next q)) ≡ true → Value d (next (next (next q))) y v r z →
-          Arg d w s (at (spot_with w (next q)) (operate_attribute a (word source (next q)) v (but_last (word source (next (next q)))) (word source (next q) ++ codes "=") (line_at (next (next q))))) r z
-      either_attribute : {w q r : Toks} {s y z : Scope} {a v : Tree} → Postfix d w s a q y → Mark (codes ".") q → front (next q) ≡ Some token.name → Mark (codes "||=") (next (next q)) → Value d (next (next (next q))) y v r z → Arg d w s (at (spot_with w (next q)) (or_attribute a (word source (next q)) v (word source (next q) ++ codes "="))) r z
-      both_attribute : {w q r : Toks} {s y z : Scope} {a v : Tree} → Postfix d w s a q y → Mark (codes ".") q → front (next q) ≡ Some token.name → Mark (codes "&&=") (next (next q)) → Value d (next (next (next q))) y v r z → Arg d w s (at (spot_with w (next q)) (and_attribute a (word source (next q)) v (word source (next q) ++ codes "="))) r z
-      element : {w q p r : Toks} {s y x z : Scope} {a i v : Tree} → Postfix d w s a q y → Mark (codes "[") q → blank q ≡ false → R.arg own (next q) y i p x → Mark (codes "]") p → Mark (codes "=") (next p) → Value d (next (next p)) x v r z → Arg d w s (at (spot_with w q) (assign_index a i v)) r z
-      operated_element : {w q p r : Toks} {s y x z : Scope} {a i v : Tree} → Postfix d w s a q y → Mark (codes "[") q → blank q ≡ false → R.arg own (next q) y i p x → Mark (codes "]") p → mark_in source sending_assignments (next p) ≡ true → Value d (next (next p)) x v r z → Arg d w s (at (spot_with w q) (operate_index a i v (but_last (word source (next p))) (line_at (next p)))) r z
-      either_element : {w q p r : Toks} {s y x z : Scope} {a i v : Tree} → Postfix d w s a q y → Mark (codes "[") q → blank q ≡ false → R.arg own (next q) y i p x → Mark (codes "]") p → Mark (codes "||=") (next p) → Value d (next (next p)) x v r z → Arg d w s (at (spot_with w q) (or_index a i v)) r z
-      both_element : {w q p r : Toks} {s y x z : Scope} {a i v : Tree} → Postfix d w s a q y → Mark (codes "[") q → blank q ≡ false → R.arg own (next q) y i p x → Mark (codes "]") p → Mark (codes "&&=") (next p) → Value d (next (next p)) x v r z → Arg d w s (at (spot_with w q) (and_index a i v)) r z
-      plain : {w r : Toks} {s z : Scope} {t : Tree} → Conditional d w s t r z → assigns source r ≡ false → Arg d w s t r z
+      other : {w r : Toks} {s z : Scope} {t : Tree} → sets source w ≡ false → Unset d w s t r z → Arg d w s t r z
+
+    pub data CommandOrArg (d : Do) : Toks → Scope → Tree → Toks → Scope → Type 0 where
+      command : {w r : Toks} {s z : Scope} {t : Tree} → Command d w s t r z → CommandOrArg d w s t r z
+      arg : {w r : Toks} {s z : Scope} {t : Tree} → Arg d w s t r z → CommandOrArg d w s t r z
 
     pub data Test (d : Do) : Toks → Scope → Tree → Toks → Scope → Type 0 where
       inverted : {w r : Toks} {s z : Scope} {t : Tree} → Word (codes "not") w → R.test d (next w) s t r z → Test d w s (at (spot w) (negated t)) r z
@@ -454,7 +459,7 @@ module _ (source : Bytes) where
     -- A statement without its modifiers.
     pub data Head (d : Do) : Toks → Scope → Tree → Toks → Scope → Type 0 where
       several : {w q r : Toks} {s y z : Scope} {gs : List Goal} {vs : Trees} → Targets w s gs q y → Mark (codes "=") q → Several d (next q) y vs r z → Head d w s (at (spot w) (assign_all vs gs)) r z
-      plain : {w r : Toks} {s z : Scope} {t : Tree} → Expr d w s t r z → Head d w s t r z
+      plain : {w r : Toks} {s z : Scope} {t : Tree} → begins_targets source w ≡ false → Expr d w s t r z → Head d w s t r z
 
     -- The modifiers of a statement that begins at o, all that there are. It is exactly `begin .. end` where b is true, and then comes before the
     -- condition of its loop. No call in that condition takes a `do`.
@@ -474,11 +479,11 @@ module _ (source : Bytes) where
       line : {w r : Toks} {s z : Scope} {ts : Trees} → Newline w → StmtList d (next w) s ts r z → StmtList d w s ts r z
       last : {w r : Toks} {s z : Scope} {t : Tree} → Stmt d w s t r z → NoNewline r → StmtList d w s (one t) r z
       another : {w q r : Toks} {s y z : Scope} {t : Tree} {ts : Trees} → Stmt d w s t q y → Newline q → StmtList d (next q) y ts r z → StmtList d w s (more t ts) r z
-      empty : {w : Toks} {s : Scope} → NoNewline w → StmtList d w s no_more w s
+      empty : {w : Toks} {s : Scope} → NoNewline w → begins_statement source w ≡ false → StmtList d w s no_more w s
 
     -- The node of statements. Statements that begin with a newline have it as their first token; those of no token stand nowhere.
     pub data Stmts (d : Do) : Toks → Scope → Tree → Toks → Scope → Type 0 where
-      none : {w : Toks} {s : Scope} → NoNewline w → Stmts d w s (at nowhere (statements no_more)) w s
+      none : {w : Toks} {s : Scope} → NoNewline w → begins_statement source w ≡ false → Stmts d w s (at nowhere (statements no_more)) w s
       lines : {w r : Toks} {s z : Scope} {ts : Trees} → Newline w → StmtList d w s ts r z → Stmts d w s (at (spot w) (statements ts)) r z
       some : {w r : Toks} {s z : Scope} {t : Tree} {ts : Trees} → NoNewline w → StmtList d w s (more t ts) r z → Stmts d w s (at (spot w) (statements (more t ts))) r z
 
@@ -488,19 +493,23 @@ module _ (source : Bytes) where
     stmts = λ d w s t r z. ⊥;
     expr = λ d w s t r z. ⊥;
     test = λ d w s t r z. ⊥;
+    whole = λ d w s t r z. ⊥;
     arg = λ d w s t r z. ⊥;
     minus = λ d w s t r z. ⊥;
     power = λ d w s t r z. ⊥;
     tight = λ d w s t r z. ⊥;
+    elses = λ d w s e r z. ⊥;
   }
   derives (suc n) = record {
     stmts = Stmts (derives n);
     expr = Expr (derives n);
     test = Test (derives n);
+    whole = CommandOrArg (derives n);
     arg = Arg (derives n);
     minus = Minus (derives n);
     power = Power (derives n);
     tight = Tight (derives n);
+    elses = Elses (derives n);
   }
 
   -- The whole list of tokens is derived as statements, which begin with no locals.

@@ -9,5 +9,9 @@ pub mod Depth
 pub mod Placement
 pub mod Reading
 pub mod FaultLine
+pub mod FirstFault
 pub mod NamesFit
 pub mod Programs
+pub mod Sights
+pub mod LocalNames
+pub mod Subtrees

@@ -1,7 +1,7 @@
 -- What stands at the front of a list of tokens, and the rules that it decides.
 use Rattle.std.specs.Prelude.{ℕ, nat_eq, ◌-◌, Bool, true, false, not, ◌&&◌, ◌||◌, List, [], ◌∷◌, length, take, drop, codes, Option, Some, None}
 use Rattle.ruby_lexer.specs.Bytes.{Bytes, same, is_in}
-use Rattle.ruby_lexer.specs.Pieces.{Kind, integer, name, variable, global, keyword, mark, newline, tok, Toks, none, more}
+use Rattle.ruby_lexer.specs.Pieces.{Kind, integer, name, constant, variable, global, keyword, mark, newline, label, tok, Toks, none, more}
 use Rattle.ruby_tree.specs.Tree.{Spot, Goal, to_local, to_instance, to_global}
 
 -- The names that are locals at a place, and whether it stands directly in a rescue clause.
@@ -96,6 +96,31 @@ is_kind_operand (Some keyword) = false
 is_kind_operand (Some mark) = false
 is_kind_operand (Some newline) = false
 is_kind_operand _ = true
+
+abbrev pub is_kind_constant : Option Kind → Bool
+is_kind_constant (Some constant) = true
+is_kind_constant _ = false
+
+-- a label, which begins a pair
+abbrev pub is_kind_label : Option Kind → Bool
+is_kind_label (Some (label ps)) = true
+is_kind_label _ = false
+
+abbrev pub is_goal : Option Goal → Bool
+is_goal (Some g) = true
+is_goal None = false
+
+-- the marks and words that begin an operand or an operator before one
+abbrev pub operand_marks : List Bytes
+operand_marks = codes "(" ∷ codes "[" ∷ codes "{" ∷ codes "::" ∷ codes "!" ∷ codes "~" ∷ codes "+" ∷ codes "-" ∷ []
+
+abbrev pub operand_words : List Bytes
+operand_words =
+    codes "nil" ∷ codes "true" ∷ codes "false" ∷ codes "self" ∷ codes "__FILE__" ∷ codes "__LINE__" ∷ codes "__dir__" ∷ codes "yield" ∷ codes "super" ∷ codes "if" ∷ codes "unless" ∷ codes "while" ∷ codes "until" ∷ codes "begin" ∷ codes "case" ∷ codes "def" ∷ codes "class" ∷ codes "module" ∷ codes "retry" ∷ []
+
+-- the words that begin a statement which is no argument
+abbrev pub statement_words : List Bytes
+statement_words = codes "not" ∷ codes "return" ∷ codes "break" ∷ codes "next" ∷ []
 
 -- the marks and words that begin an argument of a command, where a blank stands before them
 abbrev pub starting_marks : List Bytes
@@ -210,6 +235,21 @@ module _ (source : Bytes) where
   abbrev pub is_command : Scope → Bytes → Toks → Bool
   is_command s x w = not (is_local s x) && begins_arguments w
 
+  -- an argument begins here
+  abbrev pub begins_arg : Toks → Bool
+  begins_arg w = (is_kind_operand (front w) && not (is_kind_label (front w))) || mark_in operand_marks w || word_in operand_words w
+
+  -- it is a value of the `return`, `break` or `next` before it: the word of a modifier is not
+  abbrev pub begins_value : Toks → Bool
+  begins_value w = begins_arg w && not (word_in modifiers w)
+
+  abbrev pub begins_statement : Toks → Bool
+  begins_statement w = begins_arg w || word_in statement_words w
+
+  -- An operand goes on here: with a call, a constant behind it, or an index, which has no blank before it.
+  abbrev pub goes_on : Toks → Bool
+  goes_on w = is_mark (codes ".") w || is_mark (codes "&.") w || is_mark (codes "::") w || (is_mark (codes "[") w && not (blank w))
+
   -- brackets with no blank before them
   abbrev pub opens : Toks → Bool
   opens w = is_mark (codes "(") w && not (blank w)
@@ -245,6 +285,14 @@ module _ (source : Bytes) where
 
   abbrev pub goal_at : Toks → Option Goal
   goal_at w = goal_by (front w) (word w)
+
+  -- a variable or a constant that is set by what stands behind it
+  abbrev pub sets : Toks → Bool
+  sets w = (is_goal (goal_at w) && assigns (next w)) || (is_kind_constant (front w) && is_mark (codes "=") (next w))
+
+  -- several targets, which a comma parts
+  abbrev pub begins_targets : Toks → Bool
+  begins_targets w = is_goal (goal_at w) && is_mark (codes ",") (next w)
 
 -- a variable is set from here on
 abbrev pub declared : Goal → Scope → Scope

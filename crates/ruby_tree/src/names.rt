@@ -1,5 +1,5 @@
 //! Names by their numbers.
-ghost use Rattle.std.specs.Prelude.{◌≡◌, ◌<◌, ◌≤◌, length, Some, [], slice_get, IfOk, OnErr};
+ghost use Rattle.std.specs.Prelude.{◌≡◌, ◌<◌, ◌≤◌, length, Some, [], slice_get, unwrap_or, IfOk, OnErr};
 ghost use Rattle.ruby_tree.specs.Names.{Extends, Interns, IsOnlyNumber};
 
 use bs_outside::{NoMemory, Text};
@@ -68,5 +68,15 @@ impl SymbolTable {
             Some(text) => text.as_slice(),
             None => unreachable!(),
         }
+    }
+
+    /// The text of a name, which has no bytes where the table has no such name.
+    pub(crate) fn text(&self, name: Name) -> &[u8]
+        ensures { result.now ≡ unwrap_or (slice_get self.now name.number) [] }
+    {
+        let Some(text) = self.texts.get_index(name.number) else {
+            return b"";
+        };
+        text.as_slice()
     }
 }
