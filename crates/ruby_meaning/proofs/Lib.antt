@@ -1,0 +1,17 @@
+pub mod NativeRows
+pub mod NativeTexts
+pub mod Rows
+pub mod Leading
+pub mod Relation
+pub mod Changes
+pub mod StepsOfCalls
+pub mod StepsOfLoads
+pub mod StepsOfParts
+pub mod StepsOfTrees
+pub mod Same
+pub mod Longer
+pub mod Start
+pub mod Constructs
+pub mod MoreTurns
+pub mod Plans
+pub mod WordRows
