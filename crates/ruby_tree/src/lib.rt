@@ -33,6 +33,4 @@ mod placement_tests;
 #[cfg(test)]
 mod sight_tests;
 #[cfg(test)]
-mod subtree_tests;
-#[cfg(test)]
 mod tests;
