@@ -84,6 +84,13 @@ fn end_length(text: &[u8]) -> usize
     count
 }
 
+/// The text before the first line `__END__`, or the whole text where there is none. Tokens are parts of it.
+pub fn before_end(text: &[u8]) -> &[u8]
+    ensures { result.now ≡ before_end text.now }
+{
+    &text[..end_length(text)]
+}
+
 /// Where a text begins.
 fn at_start() -> State
     ensures { result ≡ at_start }
@@ -146,7 +153,7 @@ pub fn read_front(alloc: Global, text: &[u8]) -> Result<Front, LexError>
     if let Some(line) = text_fault(text) {
         return Err(LexError::Fault(LexFault { line }));
     }
-    let mut cursor = Cursor::new(alloc, &text[..end_length(text)]);
+    let mut cursor = Cursor::new(alloc, before_end(text));
     let front = cursor.all()?;
     Ok(front)
 }

@@ -21,7 +21,8 @@ mod state;
 mod token;
 mod words;
 
-pub use lexing::{Front, LexError, LexFault, read_front, tokens};
+pub use cursor::newlines;
+pub use lexing::{Front, LexError, LexFault, before_end, read_front, tokens};
 pub use token::{Part, Token, TokenKind};
 
 #[cfg(test)]
