@@ -183,7 +183,7 @@ module _ (source : Bytes) where
     pair_item w h = by_test (begins_arg source w) (λ a. left_true _ _ (left_true _ _ (left_true _ _ a))) (λ a. left_true _ _ (right_true _ _ (ap (λ b. b || is_label w) (sym a) ∙ h)))
 
     pub first_items : (d : Do) (k : ℕ) (w : Toks) (s : Scope) (i : Given) (r : Toks) (z : Scope) → Items source R d k w s i r z → begins_item source w ≡ true
-    first_items d k w s i r z (g.Items.element h) = left_true _ _ (left_true _ _ (first_element d _ _ _ _ _ _ h))
+    first_items d k w s i r z (g.Items.element h n) = left_true _ _ (left_true _ _ (first_element d _ _ _ _ _ _ h))
     first_items d k w s i r z (g.Items.another h m a) = left_true _ _ (left_true _ _ (first_element d _ _ _ _ _ _ h))
     first_items d k w s i r z (g.Items.pairs h) = pair_item w (first_pair_list d _ _ _ _ _ h)
     first_items d k w s i r z (g.Items.pairs_and_passed h m p) = pair_item w (first_pair_list d _ _ _ _ _ h)

@@ -36,7 +36,7 @@ module _ (source : Bytes) (k : ℕ) (R T : Rels) (F : Fit k R T) where
   fits-passed (g.Passed.named e h is) le = g.Passed.named e (F.arg h (omega (arith, symbol_depth _ _ is))) is
 
   pub fits-items : {d : Do} {n : ℕ} {w r : Toks} {s z : Scope} {t : Given} → g.Items source R d n w s t r z → given_depth t < k → g.Items source T d n w s t r z
-  fits-items (g.Items.element h) le = g.Items.element (fits-element h (omega arith))
+  fits-items (g.Items.element h n) le = g.Items.element (fits-element h (omega arith)) n
   fits-items (g.Items.another h c i) le = g.Items.another (fits-element h (omega arith)) c (fits-items i (omega arith))
   fits-items (g.Items.pairs h) le = g.Items.pairs (fits-pair_list h (omega arith))
   fits-items (g.Items.pairs_and_passed h c i) le = g.Items.pairs_and_passed (fits-pair_list h (omega arith)) c (fits-passed i (omega arith))
@@ -47,7 +47,7 @@ module _ (source : Bytes) (k : ℕ) (R T : Rels) (F : Fit k R T) where
   fits-in_brackets (g.InBrackets.full o h e c) le = g.InBrackets.full o (fits-items h le) e c
 
   pub fits-command_items : {d : Do} {w r : Toks} {s z : Scope} {t : Given} → g.CommandItems source R d w s t r z → given_depth t < k → g.CommandItems source T d w s t r z
-  fits-command_items (g.CommandItems.items h e c) le = g.CommandItems.items (fits-items h le) e c
+  fits-command_items (g.CommandItems.items h e) le = g.CommandItems.items (fits-items h le) e
 
   pub fits-classes : {d : Do} {w r : Toks} {s z : Scope} {ts : Trees} → g.Classes source R d w s ts r z → trees_depth ts < k → g.Classes source T d w s ts r z
   fits-classes (g.Classes.missing e) le = g.Classes.missing e

@@ -13,7 +13,7 @@ use Rattle.list_reader.specs.Answers.{taken, ◌>>=◌}
 use Rattle.list_reader.specs.Fronts.{is_label, label_by, begins_element, more_elements, more_pairs, more_items, more_passed}
 use Rattle.list_reader.specs.ReadItems.{Readers, with_pairs, no_passing, block_params, read_bars, exception_name, with_goal, more_targets, read_targets, closed, several, read_several, read_element, elements, pair_by, read_pair, pair_list, read_passed, end_pairs, pairs_from, items_from, items, read_items, in_brackets, command_items, read_classes}
 use Rattle.list_reader.proofs.Promises.{Knows, Known, Shorters, Firsts}
-use Rattle.list_reader.proofs.Tests.{and_true, left_false, right_false, neither, neither_one, by_test, next_le, next_less, mark_kind, other_mark, kind_no_mark}
+use Rattle.list_reader.proofs.Tests.{and_true, left_false, right_false, neither, by_test, next_le, next_less, mark_kind, other_mark, kind_no_mark}
 use Rattle.list_reader.proofs.Begins.{arg_not_mark, arg_not_label, mark_no_item, mark_no_element, mark_no_pair, item_not_mark}
 use Rattle.list_reader.proofs.Shorter.{shorter_element, shorter_pair}
 use Rattle.list_reader.proofs.First.{first_several, first_elements, first_pair_list, first_passed, first_items}
@@ -99,10 +99,6 @@ module _ (source : Bytes) where
   pub no_more_pairs : (f : Bytes) (q r : Toks) → Trailing source q r → is_mark source f r ≡ true → (is_in f operand_marks || same (codes ",") f) ≡ false → more_pairs source q ≡ false
   no_more_pairs f q r (g.Trailing.comma c) e n = right_false _ _ (mark_no_pair source f (next q) e (neither _ _ n).0)
   no_more_pairs f q r g.Trailing.no_comma e n = left_false _ _ (other_mark source f (codes ",") q e (neither _ _ n).1)
-
-  pub no_arrow : (f : Bytes) (q r : Toks) → Trailing source q r → is_mark source f r ≡ true → same (codes "=>") f ≡ false → is_mark source (codes "=>") q ≡ false
-  no_arrow f q r (g.Trailing.comma c) e n = other_mark source (codes ",") (codes "=>") q c refl
-  no_arrow f q r g.Trailing.no_comma e n = other_mark source f (codes "=>") q e n
 
   module _ (R : Rels) (Q : Readers) (F : Firsts source R) (S : Shorters R) (K : Known R Q) where
     pub known_several_in : (m : ℕ) (d : Do) (w : Toks) (s : Scope) (ts : Trees) (r : Toks) (z : Scope) → Several source R d w s ts r z → count_of w < m → several source Q m d w s ≡ taken ts r z
@@ -192,7 +188,7 @@ module _ (source : Bytes) where
 
     -- items read with one turn less
     abbrev Further : ℕ → Do → ℕ → Type 0
-    Further m d k = (w : Toks) (s : Scope) (i : Given) (r : Toks) (z : Scope) → Items source R d k w s i r z → more_items source r ≡ false → is_mark source (codes "=>") r ≡ false → count_of w < m → items source Q m d k w s ≡ taken i r z
+    Further m d k = (w : Toks) (s : Scope) (i : Given) (r : Toks) (z : Scope) → Items source R d k w s i r z → more_items source r ≡ false → count_of w < m → items source Q m d k w s ≡ taken i r z
 
     by_pair : (m : ℕ) (d : Do) (k : ℕ) (w : Toks) (s : Scope) (t u : Tree) (q : Toks) (y : Scope) (i : Given) (r : Toks) (z : Scope) → Pair source R d w s t u q y → pairs_from source Q d w (record { key = t; value = u }) q y ≡ taken i r z → begins_arg source w ≡ true → ByArgument m d k w s i r z
     unfolding ◌>>=◌ items_from
@@ -213,26 +209,26 @@ module _ (source : Bytes) where
     no_pair_behind : (d : Do) (q : Toks) (y : Scope) (v b : Other) (r : Toks) (z : Scope) → Passed source R d (next q) y v b r z → more_pairs source q ≡ false
     no_pair_behind d q y v b r z h = right_false _ _ (mark_no_pair source (codes "&") (next q) (first_passed source R F d _ _ _ _ _ _ h) refl)
 
-    by_argument : (m : ℕ) (d : Do) (k : ℕ) (further : Further m d (suc k)) (w : Toks) (s : Scope) (i : Given) (r : Toks) (z : Scope) → Items source R d k w s i r z → more_items source r ≡ false → is_mark source (codes "=>") r ≡ false → count_of w ≤ m → begins_arg source w ≡ true → ByArgument m d k w s i r z
+    by_argument : (m : ℕ) (d : Do) (k : ℕ) (further : Further m d (suc k)) (w : Toks) (s : Scope) (i : Given) (r : Toks) (z : Scope) → Items source R d k w s i r z → more_items source r ≡ false → count_of w ≤ m → begins_arg source w ≡ true → ByArgument m d k w s i r z
     unfolding ◌>>=◌ items_from
-    by_argument m d k further w s i r z (g.Items.element (g.Element.plain h)) far arrow room b = record { tree = _; end = r; scope = z; first = h; rest = rw (arrow, far); ends = λ f c a o. refl }
-    by_argument m d k further w s i r z (g.Items.element (g.Element.spread e h)) far arrow room b = absurd (true≢false (sym e ∙ arg_not_mark source (codes "*") w b refl))
-    by_argument m d k further w s i r z (g.Items.another {q = q} {y = y} (g.Element.plain h) c l) far arrow room b = record {
+    by_argument m d k further w s i r z (g.Items.element (g.Element.plain h) n) far room b = record { tree = _; end = r; scope = z; first = h; rest = rw (n, far); ends = λ f c a o. refl }
+    by_argument m d k further w s i r z (g.Items.element (g.Element.spread e h) n) far room b = absurd (true≢false (sym e ∙ arg_not_mark source (codes "*") w b refl))
+    by_argument m d k further w s i r z (g.Items.another {q = q} {y = y} (g.Element.plain h) c l) far room b = record {
       tree = _;
       end = q;
       scope = y;
       first = h;
-      rest = rw (other_mark source (codes ",") (codes "=>") q c refl, and_true _ _ c (first_items source R F d _ _ _ _ _ _ l), further _ _ _ _ _ l far arrow (omega (arith, S.arg d _ _ _ _ _ h, next_le q)));
+      rest = rw (other_mark source (codes ",") (codes "=>") q c refl, and_true _ _ c (first_items source R F d _ _ _ _ _ _ l), further _ _ _ _ _ l far (omega (arith, S.arg d _ _ _ _ _ h, next_le q)));
       ends = λ f n a o. absurd (true≢false (sym c ∙ other_mark source f (codes ",") q o n));
     }
-    by_argument m d k further w s i r z (g.Items.another (g.Element.spread e h) c l) far arrow room b = absurd (true≢false (sym e ∙ arg_not_mark source (codes "*") w b refl))
-    by_argument m d k further w s i r z (g.Items.pairs h) far arrow room b =
+    by_argument m d k further w s i r z (g.Items.another (g.Element.spread e h) c l) far room b = absurd (true≢false (sym e ∙ arg_not_mark source (codes "*") w b refl))
+    by_argument m d k further w s i r z (g.Items.pairs h) far room b =
         let p = pairing d _ _ _ _ _ h (items_no_pairs r far) in
         by_pair m d k w s p.key p.value p.end p.scope i r z p.first (p.rest ∙ known_end_pairs d w _ r z (items_no_passed r far)) b
-    by_argument m d k further w s i r z (g.Items.pairs_and_passed {q = q} {y = y} h c a) far arrow room b =
+    by_argument m d k further w s i r z (g.Items.pairs_and_passed {q = q} {y = y} h c a) far room b =
         let p = pairing d _ _ _ _ _ h (no_pair_behind d q _ _ _ _ _ a) in
         by_pair m d k w s p.key p.value p.end p.scope i r z p.first (p.rest ∙ known_end_passed d w _ q y _ _ r z c a) b
-    by_argument m d k further w s i r z (g.Items.passed h) far arrow room b = absurd (true≢false (sym (first_passed source R F d _ _ _ _ _ _ h) ∙ no_amp_arg w b))
+    by_argument m d k further w s i r z (g.Items.passed h) far room b = absurd (true≢false (sym (first_passed source R F d _ _ _ _ _ _ h) ∙ no_amp_arg w b))
 
     at_argument : (m : ℕ) (d : Do) (k : ℕ) (w : Toks) (s : Scope) (i : Given) (r : Toks) (z : Scope) → begins_arg source w ≡ true → ByArgument m d k w s i r z → items source Q (suc m) d k w s ≡ taken i r z
     unfolding ◌>>=◌ items read_element
@@ -243,47 +239,47 @@ module _ (source : Bytes) where
     at_label m d k w s t u q y i r z (g.Pair.arrow h e v) is b = absurd (true≢false (sym (F.arg d _ _ _ _ _ h).begins ∙ b))
     at_label m d k w s t u q y i r z (g.Pair.label e p h) is b = rw (kind_no_mark source (codes "&") w (label _) e refl, ap is_kind_label e, known_pair d _ _ _ _ _ _ (g.Pair.label e p h)) is
 
-    at_another : (m : ℕ) (d : Do) (k : ℕ) (further : Further m d (suc k)) (w : Toks) (s : Scope) (i : Given) (r : Toks) (z : Scope) → Items source R d k w s i r z → more_items source r ≡ false → is_mark source (codes "=>") r ≡ false → count_of w ≤ m → begins_arg source w ≡ false → items source Q (suc m) d k w s ≡ taken i r z
+    at_another : (m : ℕ) (d : Do) (k : ℕ) (further : Further m d (suc k)) (w : Toks) (s : Scope) (i : Given) (r : Toks) (z : Scope) → Items source R d k w s i r z → more_items source r ≡ false → count_of w ≤ m → begins_arg source w ≡ false → items source Q (suc m) d k w s ≡ taken i r z
     unfolding ◌>>=◌ items items_from
-    at_another m d k further w s i r z (g.Items.element (g.Element.plain h)) far arrow room b = absurd (true≢false (sym (F.arg d _ _ _ _ _ h).begins ∙ b))
-    at_another m d k further w s i r z (g.Items.element (g.Element.spread e h)) far arrow room b =
+    at_another m d k further w s i r z (g.Items.element (g.Element.plain h) n) far room b = absurd (true≢false (sym (F.arg d _ _ _ _ _ h).begins ∙ b))
+    at_another m d k further w s i r z (g.Items.element (g.Element.spread e h) n) far room b =
         rw (other_mark source (codes "*") (codes "&") w e refl, ap is_kind_label (mark_kind source (codes "*") w e), known_element d _ _ _ _ _ _ (g.Element.spread e h), far)
-    at_another m d k further w s i r z (g.Items.another (g.Element.plain h) c l) far arrow room b = absurd (true≢false (sym (F.arg d _ _ _ _ _ h).begins ∙ b))
-    at_another m d k further w s i r z (g.Items.another {q = q} (g.Element.spread e h) c l) far arrow room b =
-        rw (other_mark source (codes "*") (codes "&") w e refl, ap is_kind_label (mark_kind source (codes "*") w e), known_element d _ _ _ _ _ _ (g.Element.spread e h), and_true _ _ c (first_items source R F d _ _ _ _ _ _ l), further _ _ _ _ _ l far arrow (omega (arith, S.arg d _ _ _ _ _ h, next_le w, next_le q)))
-    at_another m d k further w s i r z (g.Items.pairs h) far arrow room b =
+    at_another m d k further w s i r z (g.Items.another (g.Element.plain h) c l) far room b = absurd (true≢false (sym (F.arg d _ _ _ _ _ h).begins ∙ b))
+    at_another m d k further w s i r z (g.Items.another {q = q} (g.Element.spread e h) c l) far room b =
+        rw (other_mark source (codes "*") (codes "&") w e refl, ap is_kind_label (mark_kind source (codes "*") w e), known_element d _ _ _ _ _ _ (g.Element.spread e h), and_true _ _ c (first_items source R F d _ _ _ _ _ _ l), further _ _ _ _ _ l far (omega (arith, S.arg d _ _ _ _ _ h, next_le w, next_le q)))
+    at_another m d k further w s i r z (g.Items.pairs h) far room b =
         let p = pairing d _ _ _ _ _ h (items_no_pairs r far) in
         at_label m d k w s p.key p.value p.end p.scope i r z p.first (p.rest ∙ known_end_pairs d w _ r z (items_no_passed r far)) b
-    at_another m d k further w s i r z (g.Items.pairs_and_passed {q = q} {y = y} h c a) far arrow room b =
+    at_another m d k further w s i r z (g.Items.pairs_and_passed {q = q} {y = y} h c a) far room b =
         let p = pairing d _ _ _ _ _ h (no_pair_behind d q _ _ _ _ _ a) in
         at_label m d k w s p.key p.value p.end p.scope i r z p.first (p.rest ∙ known_end_passed d w _ q y _ _ r z c a) b
-    at_another m d k further w s i r z (g.Items.passed h) far arrow room b = rw (first_passed source R F d _ _ _ _ _ _ h, known_passed d _ _ _ _ _ _ h)
+    at_another m d k further w s i r z (g.Items.passed h) far room b = rw (first_passed source R F d _ _ _ _ _ _ h, known_passed d _ _ _ _ _ _ h)
 
-    pub known_items : (m : ℕ) (d : Do) (k : ℕ) (w : Toks) (s : Scope) (i : Given) (r : Toks) (z : Scope) → Items source R d k w s i r z → more_items source r ≡ false → is_mark source (codes "=>") r ≡ false → count_of w < m → items source Q m d k w s ≡ taken i r z
-    known_items zero d k w s i r z h far arrow room = absurd (omega arith)
-    known_items (suc m) d k w s i r z h far arrow room =
+    pub known_items : (m : ℕ) (d : Do) (k : ℕ) (w : Toks) (s : Scope) (i : Given) (r : Toks) (z : Scope) → Items source R d k w s i r z → more_items source r ≡ false → count_of w < m → items source Q m d k w s ≡ taken i r z
+    known_items zero d k w s i r z h far room = absurd (omega arith)
+    known_items (suc m) d k w s i r z h far room =
         let further = known_items m d (suc k) in
         by_test (begins_arg source w)
-        (λ b. at_argument m d k w s i r z b (by_argument m d k further w s i r z h far arrow (omega arith) b))
-        (λ b. at_another m d k further w s i r z h far arrow (omega arith) b)
+        (λ b. at_argument m d k w s i r z b (by_argument m d k further w s i r z h far (omega arith) b))
+        (λ b. at_another m d k further w s i r z h far (omega arith) b)
 
     -- the argument with which items begin, and what is read behind it
-    pub known_by_argument : (m : ℕ) (d : Do) (k : ℕ) (w : Toks) (s : Scope) (i : Given) (r : Toks) (z : Scope) → Items source R d k w s i r z → more_items source r ≡ false → is_mark source (codes "=>") r ≡ false → count_of w ≤ m → begins_arg source w ≡ true → ByArgument m d k w s i r z
+    pub known_by_argument : (m : ℕ) (d : Do) (k : ℕ) (w : Toks) (s : Scope) (i : Given) (r : Toks) (z : Scope) → Items source R d k w s i r z → more_items source r ≡ false → count_of w ≤ m → begins_arg source w ≡ true → ByArgument m d k w s i r z
     known_by_argument m d k = by_argument m d k (known_items m d (suc k))
 
-    pub known_read_items : (d : Do) (w : Toks) (s : Scope) (i : Given) (r : Toks) (z : Scope) → Items source R d 0 w s i r z → more_items source r ≡ false → is_mark source (codes "=>") r ≡ false → read_items source Q d w s ≡ taken i r z
+    pub known_read_items : (d : Do) (w : Toks) (s : Scope) (i : Given) (r : Toks) (z : Scope) → Items source R d 0 w s i r z → more_items source r ≡ false → read_items source Q d w s ≡ taken i r z
     unfolding read_items
-    known_read_items d w s i r z h far arrow = known_items (suc (count_of w)) d 0 w s i r z h far arrow (omega arith)
+    known_read_items d w s i r z h far = known_items (suc (count_of w)) d 0 w s i r z h far (omega arith)
 
     pub known_in_brackets : Knows (InBrackets source R) (in_brackets source Q)
     unfolding ◌>>=◌ in_brackets
     known_in_brackets w s i r z (g.InBrackets.empty e c) = rw c
     known_in_brackets w s i r z (g.InBrackets.full {q = q} {r = p} e h t c) =
-        rw (item_not_mark source (codes ")") (next w) (first_items source R F own _ _ _ _ _ _ h) refl refl refl, known_read_items own _ _ _ _ _ h (no_more_items (codes ")") q p t c refl) (no_arrow (codes ")") q p t c refl)) (known_closed (codes ")") i q p z t c refl)
+        rw (item_not_mark source (codes ")") (next w) (first_items source R F own _ _ _ _ _ _ h) refl refl refl, known_read_items own _ _ _ _ _ h (no_more_items (codes ")") q p t c refl)) (known_closed (codes ")") i q p z t c refl)
 
     pub known_command_items : (d : Do) → Knows (CommandItems source R d) (command_items source Q d)
     unfolding ◌>>=◌ command_items
-    known_command_items d w s i r z (g.CommandItems.items h c a) = rw (known_read_items (in_arguments d) _ _ _ _ _ h (left_false _ _ c) a, neither_one _ _ c a)
+    known_command_items d w s i r z (g.CommandItems.items h c) = rw (known_read_items (in_arguments d) _ _ _ _ _ h (left_false _ _ c), c)
 
     pub known_classes : (d : Do) → Knows (Classes source R d) (read_classes source Q d)
     unfolding read_classes

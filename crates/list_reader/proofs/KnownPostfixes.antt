@@ -66,14 +66,13 @@ module _ (source : Bytes) (R : Rels) (Q : Readers) (F : Firsts source R) (S : Sh
   index_otherwise : (rest : Tree → Parse Start) (o : Toks) (a : Tree) (w p : Toks) (s y : Scope) (i : Given) → begins_arg source (next w) ≡ false → Items source R own 0 (next w) s i p y → is_mark source (codes "]") p ≡ true →
       read_index source Q rest o a w s ≡ end_index source Q rest o a w i p y
   unfolding ◌>>=◌ read_index
-  index_otherwise rest o a w p s y i b h e = rw (b, known_read_items source R Q F S K own _ _ _ _ _ h (no_items_more p e) (other_mark source (codes "]") (codes "=>") p e refl))
+  index_otherwise rest o a w p s y i b h e = rw (b, known_read_items source R Q F S K own _ _ _ _ _ h (no_items_more p e))
 
   index_read : (rest : Tree → Parse Start) (o : Toks) (a : Tree) (w p : Toks) (s y : Scope) (i : Given) → Items source R own 0 (next w) s i p y → is_mark source (codes "]") p ≡ true → assigns source (next p) ≡ false →
       read_index source Q rest o a w s ≡ end_index source Q rest o a w i p y
   index_read rest o a w p s y i h e f =
-      let arrow = other_mark source (codes "]") (codes "=>") p e refl in
       by_test (begins_arg source (next w))
-      (λ b. index_by_argument rest o a w p s y i b (known_by_argument source R Q F S K (suc (count_of w)) own 0 (next w) s i p y h (no_items_more p e) arrow (omega (arith, next_le w)) b) e f)
+      (λ b. index_by_argument rest o a w p s y i b (known_by_argument source R Q F S K (suc (count_of w)) own 0 (next w) s i p y h (no_items_more p e) (omega (arith, next_le w)) b) e f)
       (λ b. index_otherwise rest o a w p s y i b h e)
 
   index_step : (m : ℕ) (d : Do) (o : Toks) (a : Tree) (w p : Toks) (s y : Scope) (i : Given) → is_mark source (codes "[") w ≡ true → blank w ≡ false → Items source R own 0 (next w) s i p y → is_mark source (codes "]") p ≡ true → assigns source (next p) ≡ false →

@@ -86,7 +86,7 @@ module _ (source : Bytes) where
     last_passed (g.Passed.named h i j) e = e ▹ past_mark source (codes "&") _ h ▸ L.arg i
 
     pub last_items : {d : Do} {s z : Scope} {k : ℕ} {c : Given} {w r : Toks} → Items source R d k w s c r z → Ends w → Lines r
-    last_items (g.Items.element h) e = last_element h e
+    last_items (g.Items.element h i) e = last_element h e
     last_items (g.Items.another h i j) e = e ▹ last_element h ▸ past_mark source (codes ",") _ i ▸ last_items j
     last_items (g.Items.pairs h) e = last_pair_list h e
     last_items (g.Items.pairs_and_passed h i j) e = e ▹ last_pair_list h ▸ past_mark source (codes ",") _ i ▸ last_passed j
@@ -97,7 +97,7 @@ module _ (source : Bytes) where
     last_in_brackets (g.InBrackets.full h i j k) e = e ▹ past_mark source (codes "(") _ h ▸ last_items i ▹ last_trailing j ▸ past_mark source (codes ")") _ k
 
     pub last_command_items : {d : Do} {s z : Scope} {c : Given} {w r : Toks} → CommandItems source R d w s c r z → Ends w → Lines r
-    last_command_items (g.CommandItems.items h i j) e = last_items h e
+    last_command_items (g.CommandItems.items h i) e = last_items h e
 
     pub last_classes : {d : Do} {s z : Scope} {ts : Trees} {w r : Toks} → Classes source R d w s ts r z → Ends w → Ends r
     last_classes (g.Classes.missing h) e = e

@@ -1,5 +1,5 @@
 -- Where the tokens end with a newline, what is taken of them ends before it: operators, assignments, commands and statements.
-use Rattle.std.proofs.Common.{◌≡◌, ℕ, zero, suc, Bool, true, ◌||◌, codes, refl}
+use Rattle.std.proofs.Common.{◌≡◌, ℕ, zero, suc, Bool, true, codes, refl}
 use Rattle.ruby_lexer.specs.Bytes.{Bytes}
 use Rattle.ruby_lexer.specs.Pieces.{Toks}
 use Rattle.ruby_tree.specs.Tree.{Tree, Trees}

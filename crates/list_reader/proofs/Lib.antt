@@ -60,3 +60,4 @@ pub mod StopLongest
 pub mod StopHeaders
 pub mod StopLines
 pub mod StopSteps
+pub mod ClassFirst

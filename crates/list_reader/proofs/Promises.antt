@@ -1,9 +1,8 @@
 -- What is shown of each symbol: its reader is sound and knows what is derived, and what is derived is shorter, keeps the locals and begins as
 -- the rules say.
-use Rattle.std.proofs.Common.{◌≡◌, ℕ, ◌<◌, ◌≤◌, Bool, true, false, List, [], ◌∷◌, ◌++◌}
+use Rattle.std.proofs.Common.{◌≡◌, ◌<◌, ◌≤◌, true, false, List, ◌++◌}
 use Rattle.ruby_lexer.specs.Bytes.{Bytes}
 use Rattle.ruby_lexer.specs.Pieces.{Toks}
-use Rattle.ruby_tree.specs.Tree.{Tree, Other}
 use Rattle.ruby_tree.specs.Rules.{Scope, Do, begins_arg, begins_statement}
 use Rattle.ruby_tree.specs.Grammar.{Rel, Rels}
 use Rattle.ruby_tree.specs.FaultLine.{count_of}

@@ -85,7 +85,7 @@ module _ (source : Bytes) (b : Bool) where
     moves_passed d w s v c r z (g.Passed.named e h i) = least (at_mark source (codes "&") w e ▷ M.arg d _ _ _ _ _ h) (omega arith)
 
     pub moves_items : (d : Do) (k : ℕ) → Moving b 1 (Items source R d k)
-    moves_items d k w s t r z (g.Items.element h) = moves_element d _ _ _ _ _ _ h
+    moves_items d k w s t r z (g.Items.element h n) = moves_element d _ _ _ _ _ _ h
     moves_items d k w s t r z (g.Items.another h e hs) = least (moves_element d _ _ _ _ _ _ h ▷ at_mark source (codes ",") _ e ▷ moves_items d _ _ _ _ _ _ hs) (omega arith)
     moves_items d k w s t r z (g.Items.pairs h) = moves_pair_list d _ _ _ _ _ h
     moves_items d k w s t r z (g.Items.pairs_and_passed h e i) = least (moves_pair_list d _ _ _ _ _ h ▷ at_mark source (codes ",") _ e ▷ moves_passed d _ _ _ _ _ _ i) (omega arith)
@@ -96,7 +96,7 @@ module _ (source : Bytes) (b : Bool) where
     moves_in_brackets w s t r z (g.InBrackets.full e h t1 c) = least (at_mark source (codes "(") w e ▷ moves_items own _ _ _ _ _ _ h ▷ moves_trailing _ _ _ t1 ▷ at_mark source (codes ")") _ c) (omega arith)
 
     pub moves_command_items : (d : Do) → Moving b 1 (CommandItems source R d)
-    moves_command_items d w s t r z (g.CommandItems.items h e i) = moves_items (in_arguments d) _ _ _ _ _ _ h
+    moves_command_items d w s t r z (g.CommandItems.items h e) = moves_items (in_arguments d) _ _ _ _ _ _ h
 
     pub moves_classes : (d : Do) → Moving b 0 (Classes source R d)
     moves_classes d w s t r z (g.Classes.missing e) = stays

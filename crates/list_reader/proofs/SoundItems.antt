@@ -1,6 +1,6 @@
 -- What a reader takes is derived: lists of arguments, and what stands in brackets.
-use Rattle.std.proofs.Common.{◌≡◌, ℕ, zero, suc, Bool, false, not, ◌&&◌, ◌||◌, codes, Option, Some, None, refl}
-use Rattle.std.proofs.lemmas.Bool.{true≢false, and_parts, or_parts}
+use Rattle.std.proofs.Common.{◌≡◌, ℕ, zero, suc, Bool, false, not, ◌&&◌, codes, Option, Some, None, refl}
+use Rattle.std.proofs.lemmas.Bool.{true≢false, and_parts}
 use Rattle.ruby_lexer.specs.Bytes.{Bytes}
 use Rattle.ruby_lexer.specs.Forms.{text_of}
 use Rattle.ruby_lexer.specs.Pieces.{Kind, label, Parts, Toks}
@@ -183,9 +183,9 @@ module _ (source : Bytes) (R : Rels) (Q : Readers) (S : Sounds R Q) where
   sound-items_from further d k F w s e q y h =
       each_if (not e.spread && is_mark source (codes "=>") q) _ _
       (λ c. let both = and_parts _ _ c in each_then _ (S.arg d (next q) y) (λ v p x i. sound-pairs_from d k w s _ p x (g.Pair.arrow (plain_element d _ w q s y _ h (is_not _ both.0)) both.1 i)))
-      (λ _. each_if (more_items source q) _ _
+      (λ n. each_if (more_items source q) _ _
       (λ c. each_then _ (F (next q) y) (λ t r z i. got (g.Items.another h (and_parts _ _ c).0 i)))
-      (λ _. got (g.Items.element h)))
+      (λ _. got (g.Items.element h n)))
 
   pub sound-items_turns : (m : ℕ) (d : Do) (k : ℕ) → Sound (g.Items source R d k) (items source Q m d k)
   unfolding items
@@ -211,9 +211,9 @@ module _ (source : Bytes) (R : Rels) (Q : Readers) (S : Sounds R Q) where
   pub sound-command_items : (d : Do) → Sound (g.CommandItems source R d) (command_items source Q d)
   unfolding command_items
   sound-command_items d w s =
-      each_then _ (sound-items (in_arguments d) w s) (λ t r z h. each_if (is_mark source (codes ",") r || is_mark source (codes "=>") r) _ _
+      each_then _ (sound-items (in_arguments d) w s) (λ t r z h. each_if (is_mark source (codes ",") r) _ _
       (λ _. at_fault)
-      (λ e. let both = or_parts _ _ e in got (g.CommandItems.items h both.0 both.1)))
+      (λ e. got (g.CommandItems.items h e)))
 
   pub sound-classes : (d : Do) → Sound (g.Classes source R d) (read_classes source Q d)
   unfolding read_classes

@@ -1,5 +1,5 @@
 -- What is derived up to a newline stays derived with other tokens behind it: lists, what stands in brackets, and what the tokens alone decide.
-use Rattle.std.proofs.Common.{ℕ, Bool, List, Option, codes, ◌∙◌}
+use Rattle.std.proofs.Common.{ℕ, Bool, not, ◌&&◌, List, Option, codes, ap, ◌∙◌}
 use Rattle.std.proofs.lemmas.Bool.{false≢true}
 use Rattle.ruby_lexer.specs.Bytes.{Bytes}
 use Rattle.ruby_lexer.specs.Pieces.{Kind, tok, Toks, none, more}
@@ -133,7 +133,7 @@ module _ (xs ys : Toks) (source : Bytes) where
     swap_passed (g.Passed.named {w = more (tok _ _ _ _ _) (more (tok _ _ _ _ _) ws)} e h i) a = let H = opened xs ys (S.arg h a) in swapped xs ys (before H.alike) (g.Passed.named e H.holds i)
 
     pub swap_items : {d : Do} {k : ℕ} {s z : Scope} {c : Given} {w r q : Toks} → Items source R d k w s c r z → Alike xs ys r q → Swapped xs ys (λ (p : Toks). Items source R d k p s c q z) w
-    swap_items (g.Items.element h) a = let H = swap_element h a in swapped xs ys H.alike (g.Items.element H.holds)
+    swap_items (g.Items.element {b = b} h n) a = let H = swap_element h a in swapped xs ys H.alike (g.Items.element H.holds (ap (λ c. not b && c) (alike_mark xs ys source (codes "=>") a) ∙ n))
     swap_items (g.Items.another {q = none} h e hs) a = absurd (false≢true e)
     swap_items (g.Items.another {q = more (tok _ _ _ _ _) qs} h e hs) a = let I = swap_items hs a in let H = swap_element h (before I.alike) in swapped xs ys H.alike (g.Items.another H.holds e I.holds)
     swap_items (g.Items.pairs {w = none} h) a = absurd (none_alike xs ys (swap_pair_list h a).alike)
@@ -152,7 +152,7 @@ module _ (xs ys : Toks) (source : Bytes) where
     swap_in_brackets (g.InBrackets.full {w = more (tok _ _ _ _ _) ws} {r = more (tok _ _ _ _ _) rs} e h c i) a = let C = swap_trailing c (before a) in let H = swap_items h C.alike in swapped xs ys (before H.alike) (g.InBrackets.full e H.holds C.holds i)
 
     pub swap_command_items : {d : Do} {s z : Scope} {c : Given} {w r q : Toks} → CommandItems source R d w s c r z → Alike xs ys r q → Swapped xs ys (λ (p : Toks). CommandItems source R d p s c q z) w
-    swap_command_items (g.CommandItems.items h e i) a = let H = swap_items h a in swapped xs ys H.alike (g.CommandItems.items H.holds (alike_mark xs ys source (codes ",") a ∙ e) (alike_mark xs ys source (codes "=>") a ∙ i))
+    swap_command_items (g.CommandItems.items h e) a = let H = swap_items h a in swapped xs ys H.alike (g.CommandItems.items H.holds (alike_mark xs ys source (codes ",") a ∙ e))
 
     pub swap_classes : {d : Do} {s z : Scope} {ts : Trees} {w r q : Toks} → Classes source R d w s ts r z → Alike xs ys r q → Swapped xs ys (λ (p : Toks). Classes source R d p s ts q z) w
     swap_classes (g.Classes.missing e) a = swapped xs ys a (g.Classes.missing (alike_begins_arg xs ys source a ∙ e))

@@ -1,5 +1,5 @@
 -- What is derived up to a newline stays derived with other tokens behind it: operators by their levels.
-use Rattle.std.proofs.Common.{◌≡◌, Bool, false, ◌||◌, codes, refl, sym, ◌∙◌, subst}
+use Rattle.std.proofs.Common.{◌≡◌, Bool, false, codes, refl, sym, ◌∙◌, subst}
 use Rattle.std.proofs.lemmas.Bool.{false≢true}
 use Rattle.ruby_lexer.specs.Bytes.{Bytes}
 use Rattle.ruby_lexer.specs.Pieces.{Tok, tok, Toks, none, more}

@@ -1,5 +1,4 @@
 -- What a reader with one token of sight answers.
-use Rattle.std.specs.Prelude.{Bool, true, false, ℕ, suc, Option, Some, None}
 use Rattle.ruby_lexer.specs.Pieces.{Toks}
 use Rattle.ruby_tree.specs.Rules.{Scope}
 

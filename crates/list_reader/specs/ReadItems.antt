@@ -1,5 +1,5 @@
 -- What a reader with one token of sight takes: the symbols that nest, lists of arguments, and what stands in brackets.
-use Rattle.std.specs.Prelude.{ℕ, zero, suc, Bool, true, false, not, ◌&&◌, ◌||◌, List, [], ◌∷◌, codes, Option, Some, None, if◌then◌else◌}
+use Rattle.std.specs.Prelude.{ℕ, zero, suc, Bool, true, false, not, ◌&&◌, List, [], ◌∷◌, codes, Option, Some, None, if◌then◌else◌}
 use Rattle.ruby_lexer.specs.Bytes.{Bytes}
 use Rattle.ruby_lexer.specs.Pieces.{Toks}
 use Rattle.ruby_tree.specs.Tree.{Goal, Tree, at, hash, symbol, Trees, no_more, more, Other, without, with, Pairs, no_pair, pair, Params, no_param, required, rest_param}
@@ -171,7 +171,7 @@ module _ (source : Bytes) where
     -- items without brackets
     unfoldable pub command_items : Do → Parse Given
     command_items d w s = read_items (in_arguments d) w s >>= λ g r z.
-        if is_mark source (codes ",") r || is_mark source (codes "=>") r then fault else taken g r z
+        if is_mark source (codes ",") r then fault else taken g r z
 
     unfoldable pub read_classes : Do → Parse Trees
     read_classes d w s = if begins_arg source w then read_several d w s else taken no_more w s

@@ -1,12 +1,12 @@
 -- What a reader with one token of sight takes: operators by their levels.
-use Rattle.std.specs.Prelude.{ℕ, zero, suc, Bool, true, false, not, ◌&&◌, ◌||◌, List, [], ◌∷◌, codes, if◌then◌else◌}
+use Rattle.std.specs.Prelude.{ℕ, zero, suc, Bool, true, false, not, ◌&&◌, List, [], ◌∷◌, codes, if◌then◌else◌}
 use Rattle.ruby_lexer.specs.Bytes.{Bytes}
 use Rattle.ruby_lexer.specs.Pieces.{Toks}
 use Rattle.ruby_tree.specs.Tree.{Tree, at, range, if_else, no_more, with}
-use Rattle.ruby_tree.specs.Rules.{Scope, next, spot, spot_with, product_marks, sum_marks, shift_marks, intersection_marks, union_marks, order_marks, equality_marks, Do, mark_in, is_mark, is_negative}
+use Rattle.ruby_tree.specs.Rules.{next, spot, spot_with, product_marks, sum_marks, shift_marks, intersection_marks, union_marks, order_marks, equality_marks, Do, mark_in, is_mark, is_negative}
 use Rattle.ruby_tree.specs.Build.{one, sent, binary, conjunction, disjunction}
 use Rattle.ruby_tree.specs.FaultLine.{count_of}
-use Rattle.list_reader.specs.Answers.{Answer, taken, fault, Parse, ◌>>=◌}
+use Rattle.list_reader.specs.Answers.{taken, fault, Parse, ◌>>=◌}
 use Rattle.list_reader.specs.ReadItems.{Readers}
 use Rattle.list_reader.specs.ReadOperands.{Start, operand, read_postfix}
 

@@ -1,14 +1,14 @@
 -- What a reader with one token of sight takes: operands, and what stands behind them.
-use Rattle.std.specs.Prelude.{ℕ, zero, suc, ℤ, neg_ℤ, Bool, true, false, not, ◌&&◌, ◌||◌, List, [], ◌∷◌, codes, Option, Some, None, if◌then◌else◌}
+use Rattle.std.specs.Prelude.{ℕ, zero, suc, neg_ℤ, Bool, true, false, not, ◌&&◌, ◌||◌, [], ◌∷◌, codes, Option, Some, None, if◌then◌else◌}
 use Rattle.ruby_lexer.specs.Bytes.{Bytes}
 use Rattle.ruby_lexer.specs.Forms.{text_of}
 use Rattle.ruby_lexer.specs.Pieces.{Toks, Parts, Kind}
 use Rattle.ruby_lexer.specs.Pieces as token
 use Rattle.ruby_tree.specs.Tree.{Spot, Tree, at, Form, nil_value, true_value, false_value, integer, symbol, text, self_value, file_name, folder_name, line_number, local, instance, global, joined, array, hash, constant_path, send, yield, super, bare_super, if_else, while_loop, case_of, case_tests, retry, method, class, module_named, body, no_more, Other, without, with, no_pair, Whens, no_param}
 use Rattle.ruby_tree.specs.Rules.{Scope, fresh, is_local, blank, next, front, spot, spot_with, Do, own, loops, within, word, is_mark, is_word, opens, opens_block, begins_arguments, begins_arg, is_command, is_negative, assigns}
-use Rattle.ruby_tree.specs.Build.{Given, nothing, has_block, or_empty, call_form, sent, bare_form, path_with, texts_at, symbols_at}
+use Rattle.ruby_tree.specs.Build.{Given, nothing, has_block, or_empty, call_form, bare_form, path_with, texts_at, symbols_at}
 use Rattle.ruby_tree.specs.FaultLine.{count_of}
-use Rattle.list_reader.specs.Answers.{Answer, taken, fault, Parse, ◌>>=◌, found, missing, ◌>>>◌}
+use Rattle.list_reader.specs.Answers.{Answer, taken, fault, Parse, ◌>>=◌, ◌>>>◌}
 use Rattle.list_reader.specs.Fronts.{is_newline, is_name, is_constant, skip_newlines, then_at, loop_start_at, method_name_at, on_self_at, is_dot}
 use Rattle.list_reader.specs.ReadItems.{Readers, closed, elements, pair_list, items, items_from, read_items, in_brackets}
 use Rattle.list_reader.specs.ReadBodies.{read_body, ended, read_block, call_block, call_items, text_parts, read_else, when_list, read_parameters, read_superclass}

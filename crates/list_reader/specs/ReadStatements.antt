@@ -1,10 +1,10 @@
 -- What a reader with one token of sight takes: assignments, commands and statements.
-use Rattle.std.specs.Prelude.{ℕ, zero, suc, Bool, true, false, not, ◌&&◌, ◌||◌, List, [], ◌∷◌, ◌++◌, codes, Option, Some, None, if◌then◌else◌}
+use Rattle.std.specs.Prelude.{ℕ, zero, suc, Bool, true, false, ◌&&◌, ◌||◌, ◌++◌, codes, Option, Some, None, if◌then◌else◌}
 use Rattle.ruby_lexer.specs.Bytes.{Bytes}
 use Rattle.ruby_lexer.specs.Pieces.{Toks}
-use Rattle.ruby_tree.specs.Tree.{Spot, Goal, to_constant, Tree, at, Form, assign, assign_all, assign_attribute, assign_index, operate_attribute, or_attribute, and_attribute, operate_index, or_index, and_index, send, yield, super, statements, both, either, negated, if_else, while_loop, return_with, break_with, next_with, Trees, no_more, more, Other, without, with}
+use Rattle.ruby_tree.specs.Tree.{Spot, Goal, to_constant, Tree, at, Form, assign, assign_all, assign_attribute, assign_index, operate_attribute, or_attribute, and_attribute, operate_index, or_index, and_index, send, yield, super, statements, both, either, negated, if_else, while_loop, return_with, break_with, next_with, Trees, no_more, more, without, with}
 use Rattle.ruby_tree.specs.Rules.{Scope, declared, in_clause, behind, next, line_at, spot, spot_with, nowhere, but_last, Do, loops, word, is_mark, is_word, begins_value, begins_statement, begins_targets, sets, assigns, goal_at}
-use Rattle.ruby_tree.specs.Build.{Given, has_block, is_body, one, alone, or_empty, read_form, call_form, sent, rescued, conjunction, disjunction}
+use Rattle.ruby_tree.specs.Build.{has_block, is_body, one, alone, or_empty, read_form, call_form, sent, rescued, conjunction, disjunction}
 use Rattle.ruby_tree.specs.FaultLine.{count_of}
 use Rattle.list_reader.specs.Answers.{Answer, taken, fault, deep, Parse, ◌>>=◌}
 use Rattle.list_reader.specs.Fronts.{is_newline, is_name, begins_command, begins_operator}

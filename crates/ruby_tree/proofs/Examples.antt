@@ -57,7 +57,7 @@ puts_one_is = record {
   derived =
       g.Stmts.some refl (g.StmtList.last (g.head (g.Head.plain refl (g.tests (g.Test.plain (g.command (g.Command.named refl refl
       (g.items (g.Items.element (g.Element.plain
-      (operand puts_one (derives puts_one 0) refl (g.literal (g.number refl)) refl refl refl refl refl refl refl refl refl refl refl refl refl refl refl))) refl refl)
+      (operand puts_one (derives puts_one 0) refl (g.literal (g.number refl)) refl refl refl refl refl refl refl refl refl refl refl refl refl refl refl)) refl) refl)
       (g.CommandBlock.missing refl)))) (g.Tests.end refl refl))) (g.Modifiers.end refl)) refl);
 }
 
@@ -106,7 +106,7 @@ block_of_command_is = record {
   derived =
       g.Stmts.some refl (g.StmtList.last (g.head (g.Head.plain refl (g.tests (g.Test.plain (g.command (g.Command.named refl refl
       (g.items (g.Items.element (g.Element.plain
-      (operand block_of_command (derives block_of_command 0) refl (g.bare_name refl refl refl refl refl) refl refl refl refl refl refl refl refl refl refl refl refl refl refl refl))) refl refl)
+      (operand block_of_command (derives block_of_command 0) refl (g.bare_name refl refl refl refl refl) refl refl refl refl refl refl refl refl refl refl refl refl refl refl refl)) refl) refl)
       (g.CommandBlock.given refl refl (g.block refl (g.Bars.missing refl) (g.Body.plain (g.Rescued.plain (g.Stmts.none refl refl) refl) refl) refl)))))
       (g.Tests.end refl refl))) (g.Modifiers.end refl)) refl);
 }

@@ -1,14 +1,11 @@
--- The line of the fault of a text that has no tree.
-use Rattle.std.specs.Prelude.{◌≡◌, ℕ, suc, ◌-◌, ◌≤◌, ◌<◌, Bool, true, List, length, take, Option, Some, None, codes, Contains}
+-- Where the grammar stops in a list of tokens, and which of several spots comes first.
+use Rattle.std.specs.Prelude.{◌≡◌, ℕ, suc, ◌-◌, ◌≤◌, Bool, true, List, length, take, Some, codes, Contains}
 use Rattle.ruby_lexer.specs.Bytes.{Bytes}
 use Rattle.ruby_lexer.specs.Forms.{newlines}
 use Rattle.ruby_lexer.specs.Pieces.{Tok, Toks, none, more, constant}
-use Rattle.ruby_lexer.specs.Tokens.{IsText, AreTokens, FaultLine, IsFront, before_end}
 use Rattle.ruby_tree.specs.Tree.{Spot, Tree, Other, Params}
 use Rattle.ruby_tree.specs.Rules.{Scope, fresh, next, front, line_at, is_kind_newline, own}
-use Rattle.ruby_tree.specs.Grammar.{derives, Derives, Word, Newline, MethodName, OnSelf, ParameterList, Superclass}
-use Rattle.ruby_tree.specs.Depth.{depth}
-use Rattle.ruby_tree.specs.Placement.{faults, at_home, file}
+use Rattle.ruby_tree.specs.Grammar.{derives, Word, Newline, MethodName, OnSelf, ParameterList, Superclass}
 
 -- the first tokens, and then the others
 abbrev pub toks_then : Toks → Toks → Toks
@@ -63,20 +60,7 @@ module _ (source : Bytes) where
     token : {s y : Scope} {w u ts : Toks} {t : Tok} → IsLongestFront s w u (more t ts) y → ((r : Toks) (z : Scope) → Header y (more t ts) r z → ⊥) → StopsAt end s w (line_at (more t ts))
     ends : {s y : Scope} {w u : Toks} → IsLongestFront s w u none y → StopsAt end s w end
 
--- the line behind the last token: that of a place at which no token begins, or the last line
-abbrev pub end_line : Bytes → Option ℕ → ℕ
-end_line bytes None = last_line (before_end bytes)
-end_line bytes (Some line) = line
-
 -- One of these spots comes first in the text.
 pub record IsFirst (os : List Spot) (o : Spot) : Type 0 where
   pub among : Contains os o
   pub first : (p : Spot) → Contains os p → o.place ≤ p.place
-
--- The line of the fault of a text: what is no text, the grammar, the depth of the tree, and what stands where it may not, in this order.
-pub data HasFault (bytes : Bytes) : ℕ → Type 0 where
-  no_text : {line : ℕ} → (IsText bytes → ⊥) → FaultLine bytes line → HasFault bytes line
-  -- The tokens end where no token begins, or they are not derived as statements.
-  grammar : {ts : Toks} {stop : Option ℕ} {line : ℕ} → IsFront bytes ts stop → (stop ≡ None → (t : Tree) → Derives (before_end bytes) ts t → ⊥) → StopsAt (before_end bytes) (end_line bytes stop) fresh ts line → HasFault bytes line
-  deep : {ts : Toks} {t : Tree} → AreTokens bytes ts → Derives (before_end bytes) ts t → 200 < depth t → HasFault bytes (last_line (before_end bytes))
-  placement : {ts : Toks} {t : Tree} {o : Spot} → AreTokens bytes ts → Derives (before_end bytes) ts t → depth t ≤ 200 → IsFirst (faults (at_home file) t) o → HasFault bytes o.first

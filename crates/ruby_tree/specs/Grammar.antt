@@ -4,7 +4,7 @@ use Rattle.ruby_lexer.specs.Bytes.{Bytes}
 use Rattle.ruby_lexer.specs.Forms.{text_of}
 use Rattle.ruby_lexer.specs.Pieces.{Parts, Toks}
 use Rattle.ruby_lexer.specs.Pieces as token
-use Rattle.ruby_tree.specs.Tree.{Spot, Goal, to_constant, Tree, at, nil_value, true_value, false_value, integer, symbol, text, self_value, file_name, folder_name, line_number, local, instance, global, joined, array, hash, range, constant_path, assign, assign_all, assign_attribute, assign_index, operate_attribute, or_attribute, and_attribute, operate_index, or_index, and_index, send, yield, super, bare_super, statements, both, either, negated, if_else, while_loop, case_of, case_tests, return_with, break_with, next_with, retry, rescue, ensure, rescue_sequence, ensure_sequence, method, class, module_named, body, Trees, no_more, more, trees_then, Other, without, with, Pairs, no_pair, pair, Pieces, no_piece, plain_piece, code_piece, Whens, no_when, when, Rescues, no_clause, clause, Params, no_param, required, optional, rest_param, block_param}
+use Rattle.ruby_tree.specs.Tree.{Spot, Goal, to_constant, Tree, at, nil_value, true_value, false_value, integer, symbol, text, self_value, file_name, folder_name, line_number, local, instance, global, joined, array, hash, range, constant_path, assign, assign_all, assign_attribute, assign_index, operate_attribute, or_attribute, and_attribute, operate_index, or_index, and_index, send, yield, super, bare_super, statements, both, either, negated, if_else, while_loop, case_of, case_tests, return_with, break_with, next_with, retry, rescue, ensure, rescue_sequence, ensure_sequence, method, class, module_named, body, Trees, no_more, more, Other, without, with, Pairs, no_pair, pair, Pieces, no_piece, plain_piece, code_piece, Whens, no_when, when, Rescues, no_clause, clause, Params, no_param, required, optional, rest_param, block_param}
 use Rattle.ruby_tree.specs.Rules.{Scope, fresh, is_local, declare, declared, in_clause, outside_clause, behind, next, front, blank, touches_next, line_at, spot, spot_with, nowhere, is_kind_newline, modifiers, method_marks, sending_assignments, product_marks, sum_marks, shift_marks, intersection_marks, union_marks, order_marks, equality_marks, but_last, Do, own, loops, in_arguments, within, call_takes, command_takes, word, mark_in, word_in, is_mark, is_word, begins_arguments, begins_arg, begins_value, begins_statement, begins_targets, sets, goes_on, is_command, opens, opens_block, opens_do, is_negative, assigns, begins_params, goal_at}
 use Rattle.ruby_tree.specs.Build.{Given, nothing, has_block, spread_at, symbol_of, is_body, one, alone, or_empty, read_form, call_form, sent, bare_form, path_with, symbol_block, rescued, texts_at, symbols_at, binary, conjunction, disjunction}
 
@@ -137,9 +137,10 @@ module _ (source : Bytes) where
       value : {w r : Toks} {s z : Scope} {a : Tree} → Mark (codes "&") w → R.arg d (next w) s a r z → symbol_of a ≡ None → Passed d w s (with a) without r z
       named : {w r : Toks} {s z : Scope} {a : Tree} {m : Bytes} → Mark (codes "&") w → R.arg d (next w) s a r z → symbol_of a ≡ Some m → Passed d w s without (with (symbol_block w m)) r z
 
-    -- The items of a call from the k-th on: elements, then pairs, which make one hash, then what is passed behind `&`.
+    -- The items of a call from the k-th on: elements, then pairs, which make one hash, then what is passed behind `&`. An argument with an arrow
+    -- behind it is a key: it is no item by itself.
     pub data Items (d : Do) : ℕ → Toks → Scope → Given → Toks → Scope → Type 0 where
-      element : {k : ℕ} {b : Bool} {w r : Toks} {s z : Scope} {a : Tree} → Element d b w s a r z → Items d k w s (record { trees = one a; spread = spread_at b k []; value = without; block = without }) r z
+      element : {k : ℕ} {b : Bool} {w r : Toks} {s z : Scope} {a : Tree} → Element d b w s a r z → (not b && is_mark source (codes "=>") r) ≡ false → Items d k w s (record { trees = one a; spread = spread_at b k []; value = without; block = without }) r z
       another : {k : ℕ} {b : Bool} {w q r : Toks} {s y z : Scope} {a : Tree} {g : Given} → Element d b w s a q y → Mark (codes ",") q → Items d (suc k) (next q) y g r z → Items d k w s (record { trees = more a g.trees; spread = spread_at b k g.spread; value = g.value; block = g.block }) r z
       pairs : {k : ℕ} {w r : Toks} {s z : Scope} {ps : Pairs} → PairList d w s ps r z → Items d k w s (record { trees = one (at (spot w) (hash ps)); spread = []; value = without; block = without }) r z
       pairs_and_passed : {k : ℕ} {w q r : Toks} {s y z : Scope} {ps : Pairs} {v b : Other} → PairList d w s ps q y → Mark (codes ",") q → Passed d (next q) y v b r z → Items d k w s (record { trees = one (at (spot w) (hash ps)); spread = []; value = v; block = b }) r z
@@ -150,9 +151,9 @@ module _ (source : Bytes) where
       empty : {w : Toks} {s : Scope} → Mark (codes "(") w → Mark (codes ")") (next w) → InBrackets w s nothing (next (next w)) s
       full : {w q r : Toks} {s z : Scope} {g : Given} → Mark (codes "(") w → Items own 0 (next w) s g q z → Trailing q r → Mark (codes ")") r → InBrackets w s g (next r) z
 
-    -- Items without brackets. A comma and an arrow go on with the innermost command.
+    -- Items without brackets. A comma goes on with the innermost command.
     pub data CommandItems (d : Do) : Toks → Scope → Given → Toks → Scope → Type 0 where
-      items : {w r : Toks} {s z : Scope} {g : Given} → Items (in_arguments d) 0 w s g r z → NoMark (codes ",") r → NoMark (codes "=>") r → CommandItems d w s g r z
+      items : {w r : Toks} {s z : Scope} {g : Given} → Items (in_arguments d) 0 w s g r z → NoMark (codes ",") r → CommandItems d w s g r z
 
     -- The classes of a rescue clause, if there are any.
     pub data Classes (d : Do) : Toks → Scope → Trees → Toks → Scope → Type 0 where

@@ -12,6 +12,4 @@ pub mod FaultLine
 pub mod FirstFault
 pub mod NamesFit
 pub mod Programs
-pub mod Sights
-pub mod LocalNames
-pub mod Subtrees
+pub mod Spots

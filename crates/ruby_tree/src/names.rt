@@ -71,7 +71,7 @@ impl SymbolTable {
     }
 
     /// The text of a name, which has no bytes where the table has no such name.
-    pub(crate) fn text(&self, name: Name) -> &[u8]
+    pub fn text(&self, name: Name) -> &[u8]
         ensures { result.now ≡ unwrap_or (slice_get self.now name.number) [] }
     {
         let Some(text) = self.texts.get_index(name.number) else {

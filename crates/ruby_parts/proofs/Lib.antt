@@ -1,0 +1,12 @@
+pub mod Fitted
+pub mod GoesOn
+pub mod Pushed
+pub mod Parts
+pub mod Built
+pub mod Words
+pub mod Targets
+pub mod ValueKinds
+pub mod AssignmentKinds
+pub mod CallKinds
+pub mod ControlKinds
+pub mod DefinitionKinds
