@@ -1,2 +1,11 @@
 pub mod Numbers
 pub mod Prefixes
+pub mod Scanning
+pub mod Uncut
+pub mod Sited
+pub mod SitedParts
+pub mod SitedStatements
+pub mod Tails
+pub mod LinedText
+pub mod Sites
+pub mod ReadingOne

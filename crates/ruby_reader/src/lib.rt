@@ -1,6 +1,7 @@
 //! Reads Ruby: by now files of a small form.
 #![tactic(auto)]
 
+pub mod laws;
 mod lines;
 mod reading;
 mod sums;
