@@ -1,0 +1,42 @@
+use Rattle.std.proofs.Common.{sym, ap, ◌∙◌, ◌≡◌, Some, Option, subst}
+use Rattle.ruby_lexer.specs.Bytes.{Bytes}
+use Rattle.ruby_lexer.specs.Pieces.{Toks}
+use Rattle.ruby_tree.specs.Rules.{spot}
+use Rattle.ruby_tree.specs.Tree.{Spot, Tree, at, symbol}
+use Rattle.ruby_sight.specs.Sights.{do_of}
+use Rattle.ruby_parts.proofs.GoesOn.{named_later}
+use Rattle.list_reader.specs.Fronts.{label_at}
+use Rattle.list_reader.specs.ReadItems.{pair_by}
+use Rattle.parse_state.specs.Gives.{gave, no_syntax}
+use Rattle.parse_state.proofs.Steps.{named, and_then, failed, handed, wanting, step, cut, from, later_of, later_same, later_then}
+use Rattle.parse_state.proofs.Seen.{sees}
+use Rattle.parse_items.proofs.Parts.{spot_held}
+use Rattle.parse_items.proofs.pairs.labeled.Goals as goal
+
+pub returns-in_err-text : goal.returns-in_err-text
+returns-in_err-text g c = record { reads = λ w s a. wanting _ c.from_residual.ensures.1 }
+
+pub returns-in_default : goal.returns-in_default
+unfolding pair_by
+returns-in_default g c = record { reads = λ w s a. named (ap (λ o. pair_by c.args.context.source.now (g.N.Nested.readers c.args.nested.now c.args.context.source.now) (do_of c.args.takes) w s o) (sym (c.in_ok-text.ensures ∙ ap (λ t. label_at t) (sees c.sight-sight.ensures.rest a)) ∙ c.in_default.is)) no_syntax }
+
+pub returns-in_err-name : goal.returns-in_err-name
+returns-in_err-name g c = record { reads = λ w s a. handed _ _ c.from_residual-in_err-name.ensures.1 (cut (c.in_err-name.ensures.gives w s a)) }
+
+pub returns-in_err-value : goal.returns-in_err-value
+unfolding pair_by
+returns-in_err-value g c = record {
+  reads = λ w s a.
+      let is = sym (c.in_ok-text.ensures ∙ ap (λ t. label_at t) (sees c.sight-sight.ensures.rest a)) ∙ c.in-Some.is ∙ ap (λ (f : Bytes). Some f) (sym c.as_slice.ensures) in
+      handed _ _ c.from_residual-in_err-value.ensures.1 (named (ap (λ o. pair_by c.args.context.source.now (g.N.Nested.readers c.args.nested.now c.args.context.source.now) (do_of c.args.takes) w s o) is) (step (c.in_ok-name.ensures.gives w s a) (λ b i. from c.bump.ensures.later (failed _ (c.in_err-value.ensures.reads _ _ (c.bump.ensures.at w s b))))));
+}
+
+pub returns : goal.returns
+unfolding pair_by
+returns g c = record {
+  reads = λ w s a.
+      let is = sym (c.in_ok-text.ensures ∙ ap (λ t. label_at t) (sees c.sight-sight.ensures.rest a)) ∙ c.in-Some.is ∙ ap (λ (f : Bytes). Some f) (sym c.as_slice.ensures) in
+      named (ap (λ o. pair_by c.args.context.source.now (g.N.Nested.readers c.args.nested.now c.args.context.source.now) (do_of c.args.takes) w s o) is) (step (c.in_ok-name.ensures.gives w s a) (λ b i. from c.bump.ensures.later (and_then (c.in_ok-value.ensures.reads _ _ (c.bump.ensures.at w s b)) (λ v r z f k.
+      let l = later_then c.bump.ensures.later (later_of (c.in_ok-value.ensures.reads _ _ (c.bump.ensures.at w s b))) in
+      gave f (later_same _) (record { key = spot_held (c.spot.ensures ∙ ap (λ t. spot t) (sees c.sight-sight.ensures.rest a)) (c.symbol-key.ensures.made _ _ (named_later _ _ l.names _ _ i)); value = k })))));
+}

@@ -1,0 +1,4 @@
+pub mod Items
+pub mod Nothing
+pub mod OneTurn
+pub mod Turns
