@@ -1,0 +1,6 @@
+pub mod Tools
+pub mod Turning
+pub mod Counts
+pub mod Signs
+pub mod Listed
+pub mod Fronts

@@ -1,0 +1,17 @@
+use Rattle.std.proofs.Common.{sym, true, false, ◌∙◌}
+use Rattle.list_reader.specs.ReadOperands.{read_super}
+use Rattle.parse_state.specs.Gives.{no_syntax}
+use Rattle.parse_state.proofs.Steps.{yes, no}
+use Rattle.parse_operands.proofs.names.super_call.Goals as goal
+
+pub returns-then-opens_behind : goal.returns-then-opens_behind
+unfolding read_super
+returns-then-opens_behind g c = record { reads = λ w s a. yes _ (sym (c.opens_behind.ensures w s a) ∙ c.if-opens_behind.true) (c.given_super.ensures.reads w s a) }
+
+pub returns-then-arguments_behind : goal.returns-then-arguments_behind
+unfolding read_super
+returns-then-arguments_behind g c = record { reads = λ w s a. no _ (sym (c.opens_behind.ensures w s a) ∙ c.if-opens_behind.false) (yes _ (sym (c.arguments_behind.ensures w s a) ∙ c.if-arguments_behind.true) no_syntax) }
+
+pub returns : goal.returns
+unfolding read_super
+returns g c = record { reads = λ w s a. no _ (sym (c.opens_behind.ensures w s a) ∙ c.if-opens_behind.false) (no _ (sym (c.arguments_behind.ensures w s a) ∙ c.if-arguments_behind.false) (c.lone_super.ensures.reads w s a)) }

@@ -1,0 +1,7 @@
+pub mod Operands
+pub mod Turns
+pub mod Names
+pub mod Cases
+pub mod Definitions
+pub mod Literals
+pub mod Indexes

@@ -1,0 +1,20 @@
+//! Operands, and what stands behind them.
+//!
+//! A function that reads gives what the reader on lists (`list_reader`) takes from where the parser stood, and leaves the parser behind it.
+#![tactic(auto)]
+
+mod behind;
+mod definitions;
+mod ends;
+mod forms;
+mod literals;
+mod marks;
+mod names;
+mod postfixes;
+mod primaries;
+mod starts;
+mod words;
+
+pub use postfixes::postfix;
+pub use primaries::primary;
+pub use starts::Start;
