@@ -1,4 +1,3 @@
 pub mod Items
-pub mod Nothing
 pub mod OneTurn
 pub mod Turns

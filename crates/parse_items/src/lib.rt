@@ -15,6 +15,3 @@ pub use given::GivenParts;
 pub use pairs::pair_list;
 pub use rows::{classes, elements, several};
 pub use variables::{bars, exception_name, target, targets};
-
-#[cfg(test)]
-mod tests;
