@@ -15,9 +15,9 @@ use Rattle.std.proofs.lemmas.List.Quantifiers.{position-Some}
 use Rattle.std.proofs.lemmas.List.Folds.{list_any-append}
 use Rattle.bs_outside.specs.Paths.{same_bytes}
 use Rattle.cache_meaning.specs.SmallUnit.{is_among, with_name, locals_behind, slot_of}
-use Rattle.ruby_reader.specs.SmallFile.{Names}
-use Rattle.ruby_reader.specs.declared.tree.Line.{Line}
-use Rattle.ruby_reader.specs.declared.tree.Line.TheVariants as line
+use Rattle.small_form.specs.SmallForm.{Names}
+use Rattle.small_form.specs.declared.tree.Line.{Line}
+use Rattle.small_form.specs.declared.tree.Line.TheVariants as line
 use Rattle.bootsnap_top.specs.SmallRun.{Values}
 use Rattle.bootsnap_top.specs.Machine.{Datum, Nil, Integer}
 

@@ -12,22 +12,24 @@ use Rattle.iseq_types.specs.declared.instructions.Instr.{Instr}
 use Rattle.iseq_types.specs.declared.instructions.Instr.TheVariants as instr
 use Rattle.iseq_types.specs.declared.sequences.Line.{Line as CodeLine}
 use Rattle.iseq_types.specs.declared.sequences.Unit.{Unit as CompiledUnit}
-use Rattle.ruby_reader.specs.SmallFile.{Names, names_after, program_of}
-use Rattle.ruby_reader.specs.declared.tree.Operand.{Operand}
-use Rattle.ruby_reader.specs.declared.tree.Operand.TheVariants as operand
-use Rattle.ruby_reader.specs.declared.tree.Operator.{Operator}
-use Rattle.ruby_reader.specs.declared.tree.Operator.TheVariants as operator
-use Rattle.ruby_reader.specs.declared.tree.Term.{Term}
-use Rattle.ruby_reader.specs.declared.tree.Sum.{Sum}
-use Rattle.ruby_reader.specs.declared.tree.Line.{Line}
-use Rattle.ruby_reader.specs.declared.tree.Line.TheVariants as line
-use Rattle.ruby_reader.specs.declared.tree.Program.{Program}
-use Rattle.cache_meaning.specs.SmallUnit.{slot_of, locals_behind, is_among, operand_code, operator_name, term_code, sum_code, numbered, at_line, code_of, code_behind, statements_code, unit_of_program, unit_of}
-use Rattle.bootsnap_top.specs.Answer.{answer_of_program, answer_of_file}
+use Rattle.ruby_reader.specs.ReadingOf.{Reading, reading_of}
+use Rattle.ruby_reader.specs.ReadingOf as reading
+use Rattle.small_form.specs.SmallForm.{Names, names_after, small_of}
+use Rattle.small_form.specs.declared.tree.Operand.{Operand}
+use Rattle.small_form.specs.declared.tree.Operand.TheVariants as operand
+use Rattle.small_form.specs.declared.tree.Operator.{Operator}
+use Rattle.small_form.specs.declared.tree.Operator.TheVariants as operator
+use Rattle.small_form.specs.declared.tree.Term.{Term}
+use Rattle.small_form.specs.declared.tree.Sum.{Sum}
+use Rattle.small_form.specs.declared.tree.Line.{Line}
+use Rattle.small_form.specs.declared.tree.Line.TheVariants as line
+use Rattle.small_form.specs.declared.tree.SmallFile.{SmallFile}
+use Rattle.cache_meaning.specs.SmallUnit.{slot_of, locals_behind, is_among, operand_code, operator_name, term_code, sum_code, numbered, at_line, code_of, code_behind, statements_code, unit_of_program, unit_by, unit_of}
+use Rattle.bootsnap_top.specs.Answer.{answer_of_program, answer_of_reading, answer_of_file}
 use Rattle.bootsnap_top.specs.SmallRun.{Answer, Values, applied, in_range, value_of, total_of, sum_value, line_piece, assigned, values_after, behind, shown, ends_at, run_lines}
 use Rattle.bootsnap_top.specs.Machine.{Datum, Nil, Main, Integer, state_with, answer_behind, total_pushed, call_of, run_code, run_bodies, first_state}
 use Rattle.bootsnap_top.specs.declared.machine.calls.Call.TheVariants as call
-use Rattle.bootsnap_top.proofs.KnownNames.{KnownOperand, KnownTerms, KnownSum, KnownLine, KnownLines, program_known}
+use Rattle.bootsnap_top.proofs.KnownNames.{KnownOperand, KnownTerms, KnownSum, KnownLine, KnownLines, small_known}
 use Rattle.bootsnap_top.proofs.Slots.{Holds, AssignsAmong, AllAssignAmong, holds_none, holds_set, slot_below, locals_have}
 
 -- ---- sums
@@ -155,14 +157,18 @@ statements_run path number names known values stack locals (line.PutsText text �
 
 -- ---- units
 
-program_answer : (path : List ℕ) (program : Option Program) (unit : CompiledUnit) → IfSome program (λ p. KnownLines finmap.empty p.lines) → option_map (unit_of_program path) program ≡ Some unit → run_bodies path unit.bodies ≡ answer_of_program path program
+program_answer : (path : List ℕ) (program : Option SmallFile) (unit : CompiledUnit) → IfSome program (λ p. KnownLines finmap.empty p.lines) → option_map (unit_of_program path) program ≡ Some unit → run_bodies path unit.bodies ≡ answer_of_program path program
 program_answer path None unit k e = absurd (none-some unit e)
 program_answer path (Some program) unit k e =
     let locals = locals_behind [] program.lines in
     let all = statements_run path 1 locals finmap.empty finmap.empty [] (first_state (length locals)).locals program.lines k (locals_have [] program.lines) (holds_none locals) in
     ap (λ (u : CompiledUnit). run_bodies path u.bodies) (sym (same_Some (unit_of_program path program) unit e)) ∙ all
 
+reading_answer : (path : List ℕ) (r : Reading) (unit : CompiledUnit) → unit_by path r ≡ Some unit → run_bodies path unit.bodies ≡ answer_of_reading path r
+reading_answer path (reading.fault line) unit e = absurd (none-some unit e)
+reading_answer path (reading.tree t) unit e = program_answer path (small_of t) unit (small_known t) e
+
 -- the run of a file's unit is that of its text
 pub unit_answer : (path text : List ℕ) (unit : CompiledUnit) → unit_of path text ≡ Some unit → run_bodies path unit.bodies ≡ answer_of_file path (Some text)
 unfolding unit_of
-unit_answer path text unit e = program_answer path (program_of text) unit (program_known text) e
+unit_answer path text unit e = reading_answer path (reading_of text) unit e

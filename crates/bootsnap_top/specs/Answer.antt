@@ -3,8 +3,10 @@ use Rattle.std.specs.Fmt.{decimal}
 use Rattle.std.specs.FinMap as map
 use Rattle.bs_outside.specs.SourceTree.{SourceTree, bytes_at}
 use Rattle.compile_cache.specs.Fetching.{reads_of}
-use Rattle.ruby_reader.specs.SmallFile.{program_of}
-use Rattle.ruby_reader.specs.declared.tree.Program.{Program}
+use Rattle.ruby_reader.specs.ReadingOf.{Reading, reading_of}
+use Rattle.ruby_reader.specs.ReadingOf as reading
+use Rattle.small_form.specs.SmallForm.{small_of}
+use Rattle.small_form.specs.declared.tree.SmallFile.{SmallFile}
 use Rattle.bootsnap_top.specs.Plan.{plan_of, path_of}
 use Rattle.bootsnap_top.specs.SmallRun.{Answer, run_lines}
 use Rattle.bootsnap_top.specs.declared.ending.Ending.TheVariants as ending
@@ -16,18 +18,27 @@ usage_text place = codes "bootsnap: word " ++ (decimal place ++ 10 ∷ [])
 abbrev pub missing_text : List ℕ → List ℕ
 missing_text path = codes "cannot load such file -- " ++ (path ++ codes " (LoadError)\n")
 
+-- the error text of a text that has no tree, with the line of its fault
+abbrev pub syntax_text : List ℕ → ℕ → List ℕ
+syntax_text path line = path ++ 58 ∷ (decimal line ++ codes ": syntax error (SyntaxError)\n")
+
 -- the answer to a bad word
 abbrev pub usage_answer : ℕ → Answer
 usage_answer place = record { output = []; errors = usage_text place; ending = ending.Usage place }
 
--- the run of a program whose text has the small form; another text cannot be run yet
-abbrev pub answer_of_program : List ℕ → Option Program → Answer
+-- the run of a program that is a small file; another one cannot be run yet
+abbrev pub answer_of_program : List ℕ → Option SmallFile → Answer
 answer_of_program path None = record { output = []; errors = []; ending = ending.NotYet }
-answer_of_program path (Some program) = run_lines path 1 map.empty program.lines
+answer_of_program path (Some file) = run_lines path 1 map.empty file.lines
+
+-- what a text does by its reading: one that has no tree does nothing but say the line of its fault
+abbrev pub answer_of_reading : List ℕ → Reading → Answer
+answer_of_reading path (reading.fault line) = record { output = []; errors = syntax_text path line; ending = ending.Exit 1 }
+answer_of_reading path (reading.tree t) = answer_of_program path (small_of t)
 
 abbrev pub answer_of_file : List ℕ → Option (List ℕ) → Answer
 answer_of_file path None = record { output = []; errors = missing_text path; ending = ending.Exit 1 }
-answer_of_file path (Some text) = answer_of_program path (program_of text)
+answer_of_file path (Some text) = answer_of_reading path (reading_of text)
 
 abbrev pub answer_of_plan : SourceTree → Result Planned ℕ → Answer
 answer_of_plan tree (Err place) = usage_answer place

@@ -8,8 +8,8 @@ use Rattle.iseq_types.specs.declared.instructions.Literal.{Literal}
 use Rattle.iseq_types.specs.declared.instructions.Literal.TheVariants as literal
 use Rattle.iseq_types.specs.declared.sequences.Line.{Line as CodeLine}
 use Rattle.iseq_types.specs.declared.sequences.Sequence.{Sequence}
-use Rattle.ruby_reader.specs.SmallFile.{operator_of}
-use Rattle.ruby_reader.specs.declared.tree.Operator.{Operator}
+use Rattle.small_form.specs.SmallForm.{operator_of}
+use Rattle.small_form.specs.declared.tree.Operator.{Operator}
 use Rattle.bootsnap_top.specs.SmallRun.{Answer, behind, ends_at, ends_well, in_range, applied}
 use Rattle.bootsnap_top.specs.declared.ending.Ending.TheVariants as ending
 use Rattle.bootsnap_top.specs.declared.machine.calls.Call.{Call}

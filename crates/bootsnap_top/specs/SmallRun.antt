@@ -4,14 +4,14 @@ use Rattle.std.specs.Ordering.{nat_cmp}
 use Rattle.std.specs.Cmp.Lexicographic.{slice_cmp}
 use Rattle.std.specs.FinMap as map
 use Rattle.std.specs.Option.{option_map}
-use Rattle.ruby_reader.specs.declared.tree.Operand.{Operand}
-use Rattle.ruby_reader.specs.declared.tree.Operand.TheVariants as operand
-use Rattle.ruby_reader.specs.declared.tree.Operator.{Operator}
-use Rattle.ruby_reader.specs.declared.tree.Operator.TheVariants as operator
-use Rattle.ruby_reader.specs.declared.tree.Term.{Term}
-use Rattle.ruby_reader.specs.declared.tree.Sum.{Sum}
-use Rattle.ruby_reader.specs.declared.tree.Line.{Line}
-use Rattle.ruby_reader.specs.declared.tree.Line.TheVariants as line
+use Rattle.small_form.specs.declared.tree.Operand.{Operand}
+use Rattle.small_form.specs.declared.tree.Operand.TheVariants as operand
+use Rattle.small_form.specs.declared.tree.Operator.{Operator}
+use Rattle.small_form.specs.declared.tree.Operator.TheVariants as operator
+use Rattle.small_form.specs.declared.tree.Term.{Term}
+use Rattle.small_form.specs.declared.tree.Sum.{Sum}
+use Rattle.small_form.specs.declared.tree.Line.{Line}
+use Rattle.small_form.specs.declared.tree.Line.TheVariants as line
 use Rattle.bootsnap_top.specs.declared.ending.Ending.{Ending}
 use Rattle.bootsnap_top.specs.declared.ending.Ending.TheVariants as ending
 

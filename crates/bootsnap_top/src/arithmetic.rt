@@ -2,7 +2,7 @@
 ghost use Rattle.std.specs.Prelude.{◌≡◌};
 ghost use Rattle.bootsnap_top.specs.SmallRun.{applied, in_range};
 
-use ruby_reader::Operator;
+use small_form::Operator;
 
 /// The total with the value added to it or taken from it, where that is an Integer.
 #[tactic(auto, using(crate::proofs::Integers::checked))]

@@ -33,6 +33,7 @@ const NOTED: [&str; 3] = ["run", "--instrument", "main.rb"];
 struct Left {
     status: u8,
     output: MemSink,
+    errors: MemSink,
     notes: MemSink,
     shelf: MemShelf,
     reads: usize,
@@ -118,6 +119,7 @@ fn call<H: Threads + Sync, L: Ledger>(
     Ok(Some(Left {
         status: status(&done.ending),
         output,
+        errors,
         notes,
         reads: tree.reads().len(),
         shelf,
@@ -323,19 +325,22 @@ fn no_shelf_is_called_without_the_cache(rt: HostRuntime) -> anyhow::Result<()> {
 #[test]
 fn files_that_do_not_run(rt: HostRuntime) -> anyhow::Result<()> {
     let alloc = rt.alloc();
-    for (file, number, notes, reads) in [
-        ("main.rb", 207, "[Bootsnap] miss /main.rb\n", 1),
-        ("gone.rb", 1, "", 0),
+    let miss = "[Bootsnap] miss /main.rb\n";
+    let fault = "/main.rb:2: syntax error (SyntaxError)\n";
+    let gone = "cannot load such file -- /gone.rb (LoadError)\n";
+    for (text, file, number, errors, notes, reads) in [
+        ("puts 2 * 3\n", "main.rb", 207, "", miss, 1),
+        ("def f\nend\n", "main.rb", 207, "", miss, 1),
+        ("puts 1\nend", "main.rb", 1, fault, miss, 1),
+        ("puts 1\n", "gone.rb", 1, gone, "", 0),
     ] {
-        let source = Source {
-            text: "puts 2 * 3\n",
-            ..MAIN
-        };
+        let source = Source { text, ..MAIN };
         let shelf = shelf_of(alloc, Vec::new(alloc));
         let words = ["run", "--instrument", file];
         let left = call::<HostRuntime, Brand>(&rt, alloc, &words, &source, shelf, Blank::new(1))?;
         let left = left.expect(&rt, "a source tree");
         assert_eq!(rt; left.status, number);
+        assert!(rt; left.output.bytes().is_empty() && left.errors.bytes() == errors.as_bytes());
         assert!(rt; left.notes.bytes() == notes.as_bytes() && left.reads == reads);
         assert!(rt; left.shelf.past().is_empty());
     }

@@ -7,11 +7,11 @@ use bs_outside::Texts;
 /// How a call ends.
 #[derive(Drop, Debug)]
 pub enum Ending {
-    /// The program ended with this number, from 0 to 199.
+    /// The program ended with this number, from 0 to 199: 1 where its file is missing or has a syntax error, or an exception ended it.
     Exit(u8),
     /// The word at this place, counted from 1, is bad.
     Usage(u64),
-    /// The file is no file of the small form, and cannot be run yet.
+    /// The file's program is no small file, and cannot be run yet.
     NotYet,
     /// No turn was left.
     TurnsSpent,

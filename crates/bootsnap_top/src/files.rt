@@ -10,7 +10,7 @@ ghost use Rattle.bootsnap_top.specs.Answer.{answer_of_file};
 ghost use Rattle.bootsnap_top.specs.CachedRun.{IsCachedRun, IsPartOfVisit, IsPartOfRun, notes_with, is_noted};
 ghost use Rattle.bootsnap_top.specs.Endings.{IfWhole, IsOfRun, IsOfProgram, IsCutOff};
 
-use crate::errors::say_missing;
+use crate::errors::{say_missing, say_syntax};
 use crate::machine::run_unit;
 use crate::notes::note_event;
 use crate::{Desk, Ending};
@@ -19,7 +19,8 @@ use compile_cache::{CacheUse, Got, Mode, fetch_unit};
 use std::alloc::Global;
 use std::sync::ledger::Ledger;
 
-/// Runs the file at the path: its unit is fetched as the mode says, the event is noted where that is asked for, and the unit is run.
+/// Runs the file at the path: its unit is fetched as the mode says, the event is noted where that is asked for, and the unit is run. Of a text that
+/// has no tree the line of its syntax error is written to the error text, behind the note of its event.
 pub fn run_file<T: Tree, S: Shelf, O: Sink, L: Ledger>(
     alloc: Global,
     desk: &mut Desk<T, S>,
@@ -120,7 +121,7 @@ fn fetch_noted<T: Tree, S: Shelf, O: Sink, L: Ledger>(
     }
 }
 
-/// Runs what a fetch gave, or says that no file stands at the path.
+/// Runs what a fetch gave, or says that no file stands at the path, or that its text has a syntax error.
 fn run_got<O: Sink>(alloc: Global, out: &mut O, err: &mut O, path: &Text, got: &Got) -> Ending
     ensures output { (m : SourceTree) → got.now ≡ got_of m path.now → IfWhole result (O.taken out.new ≡ added (O.taken out.old) (answer_of_file path.now (bytes_at m path.now)).output) }
     ensures errors { (m : SourceTree) → got.now ≡ got_of m path.now → IfWhole result (O.taken err.new ≡ added (O.taken err.old) (answer_of_file path.now (bytes_at m path.now)).errors) }
@@ -158,7 +159,11 @@ fn run_or_say<O: Sink>(
 {
     match got {
         Got::Whole(unit) => run_unit(alloc, out, err, path, unit),
-        Got::Fault { .. } => Ok(Ending::NotYet),
+        Got::Fault { line } => {
+            say_syntax(alloc, err, path, *line)?;
+            Ok(Ending::Exit(1))
+        }
+        Got::NotYet => Ok(Ending::NotYet),
         Got::Gone => {
             say_missing(alloc, err, path)?;
             Ok(Ending::Exit(1))

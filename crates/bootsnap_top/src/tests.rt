@@ -119,22 +119,23 @@ fn small_files_run(rt: HostRuntime) -> anyhow::Result<()> {
             "/main.rb:3: integer out of range (RangeError)\n",
         ),
         ("puts 2 * 3\n", 207, "", ""),
-        ("puts 01\n", 207, "", ""),
-        ("puts 9223372036854775808\n", 207, "", ""),
-        ("puts  1\n", 207, "", ""),
-        ("puts 1 \n", 207, "", ""),
-        ("puts 1 +\n", 207, "", ""),
+        ("puts  1\n", 0, "1\n", ""),
+        ("puts 1 \n", 0, "1\n", ""),
+        ("puts 1+2", 0, "3\n", ""),
+        ("x=1 # one\nputs(x)\n", 0, "1\n", ""),
+        ("puts 1\r\n", 0, "1\n", ""),
         ("puts -1\n", 207, "", ""),
         ("puts x\nx = 1\n", 207, "", ""),
         ("x = x\n", 207, "", ""),
-        ("end = 1\n", 207, "", ""),
-        ("puts = 1\n", 207, "", ""),
+        ("puts = 1\n", 0, "", ""),
         ("X = 1\n", 207, "", ""),
         ("_x9 = 1\nputs _x9", 0, "1\n", ""),
         ("puts \"a#b\"\n", 207, "", ""),
         ("puts \"a\\n\"\n", 207, "", ""),
         ("puts\n", 207, "", ""),
-        ("puts 1\r\n", 207, "", ""),
+        ("x = 1; puts x\n", 207, "", ""),
+        ("puts 1 +\n2\n", 207, "", ""),
+        ("def f\nend\n", 207, "", ""),
     ] {
         let left = call::<HostRuntime, Brand>(
             &rt,
@@ -154,9 +155,83 @@ fn small_files_run(rt: HostRuntime) -> anyhow::Result<()> {
 }
 
 #[test]
+fn syntax_errors_have_their_line(rt: HostRuntime) -> anyhow::Result<()> {
+    let alloc = rt.alloc();
+    for (text, line) in [
+        ("puts 1\nend", 2),
+        ("puts 1\n\nbreak\n", 3),
+        ("def f\n  puts 1\n", 2),
+        ("puts 01\n", 1),
+        ("puts 1\nputs 9223372036854775808\n", 2),
+        ("puts 1 +\n", 1),
+        ("end = 1\n", 1),
+    ] {
+        let left = call::<HostRuntime, Brand>(
+            &rt,
+            alloc,
+            &["run", "main.rb"],
+            Some(text.as_bytes()),
+            [0, 0, 0],
+            Blank::new(1),
+        )?;
+        let left = left.expect(&rt, "a source tree");
+        let errors = format!(in alloc; "/main.rb:{line}: syntax error (SyntaxError)\n")?;
+        assert_eq!(rt; left.status, 1, "{text}");
+        assert!(rt; left.output.bytes().is_empty(), "{text}");
+        assert!(rt; left.errors.bytes() == errors.as_bytes(), "{text}");
+        assert!(rt; left.stats == 1 && left.reads == 1);
+    }
+    Ok(())
+}
+
+/// So many newlines, and then `puts` with a sum of so many ones.
+fn sum_behind(alloc: Global, newlines: usize, ones: usize) -> Result<Vec<u8>, NoMemory> {
+    let mut text = Vec::new(alloc);
+    for _ in 0..newlines {
+        text.push(b'\n')?;
+    }
+    text.extend_from_slice(b"puts 1")?;
+    for _ in 1..ones {
+        text.extend_from_slice(b" + 1")?;
+    }
+    text.push(b'\n')?;
+    Ok(text)
+}
+
+#[test]
+fn limits_of_the_small_form(rt: HostRuntime) -> anyhow::Result<()> {
+    let alloc = rt.alloc();
+    for (newlines, ones, number, output, errors) in [
+        (0, 100, 0, "100\n", ""),
+        (0, 101, 207, "", ""),
+        (0, 198, 207, "", ""),
+        (2, 199, 1, "", "/main.rb:3: syntax error (SyntaxError)\n"),
+        (4, 300, 1, "", "/main.rb:5: syntax error (SyntaxError)\n"),
+        (999, 7, 0, "7\n", ""),
+        (1_000, 7, 207, "", ""),
+    ] {
+        let text = sum_behind(alloc, newlines, ones)?;
+        let left = call::<HostRuntime, Brand>(
+            &rt,
+            alloc,
+            &["run", "main.rb"],
+            Some(&text),
+            [0, 0, 0],
+            Blank::new(1),
+        )?;
+        let left = left.expect(&rt, "a source tree");
+        assert_eq!(rt; left.status, number, "{newlines} {ones}");
+        assert!(rt; left.output.bytes() == output.as_bytes());
+        assert!(rt; left.errors.bytes() == errors.as_bytes());
+    }
+    Ok(())
+}
+
+#[test]
 fn words_and_faults(rt: HostRuntime) -> anyhow::Result<()> {
     let alloc = rt.alloc();
     let text = Some(b"puts 1\nputs 2".as_slice());
+    let fault = Some(b"end".as_slice());
     for (words, file, fail, number, output, errors) in [
         (
             ["run", "main.rb"].as_slice(),
@@ -226,6 +301,7 @@ fn words_and_faults(rt: HostRuntime) -> anyhow::Result<()> {
         (["run", "main.rb"].as_slice(), text, [2, 0, 0], 203, "", ""),
         (["run", "main.rb"].as_slice(), text, [0, 1, 0], 205, "", ""),
         (["run", "main.rb"].as_slice(), None, [0, 0, 1], 205, "", ""),
+        (["run", "main.rb"].as_slice(), fault, [0, 0, 1], 205, "", ""),
         (["run"].as_slice(), text, [0, 0, 1], 205, "", ""),
     ] {
         let left = call::<HostRuntime, Brand>(&rt, alloc, words, file, fail, Blank::new(1))?;

@@ -23,9 +23,11 @@ use std::sync::ledger::Ledger;
 use std::thread::Threads;
 
 /// Does what the words ask for: `run [--cache on|off] [--instrument] FILE` runs a Ruby file on the first desk, and each other list of words is
-/// refused with the place of its first bad word. `out` takes the output, `err` the error text, and `note` the events of cache files, where they are
-/// asked for. There are 1 to 16 desks, and their trees, where they tell, are one. What is said of content with the cache is said of a shelf that is
-/// trusted: what stands there at the entry fits the tree, whatever others rename is whole, and the tree's files are told apart.
+/// refused with the place of its first bad word. A text that has no tree is not run: the line of its syntax error is written, and the call ends with
+/// `Exit` of 1. A program that is no small file cannot be run yet. `out` takes the output, `err` the error text, and `note` the events of cache
+/// files, where they are asked for. There are 1 to 16 desks, and their trees, where they tell, are one. What is said of content with the cache is
+/// said of a shelf that is trusted: what stands there at the entry fits the tree, whatever others rename is whole, and the tree's files are told
+/// apart.
 pub fn bootsnap<R: Threads + Sync, T: Tree + Send, S: Shelf + Send, I: Input, O: Sink, L: Ledger>(
     _rt: &R,
     alloc: Global,

@@ -6,12 +6,12 @@ use Rattle.iseq_types.specs.declared.instructions.Instr.{Instr}
 use Rattle.iseq_types.specs.declared.instructions.Instr.TheVariants.{Dup, PutSelf, PutString, SetLocal, Send, Leave}
 use Rattle.iseq_types.specs.declared.sequences.Line.{Line as CodeLine}
 use Rattle.iseq_types.specs.Instructions.{needs_of, depth_after}
-use Rattle.ruby_reader.specs.declared.tree.Operand.{Operand}
-use Rattle.ruby_reader.specs.declared.tree.Operand.TheVariants as operand
-use Rattle.ruby_reader.specs.declared.tree.Term.{Term}
-use Rattle.ruby_reader.specs.declared.tree.Sum.{Sum}
-use Rattle.ruby_reader.specs.declared.tree.Line.{Line}
-use Rattle.ruby_reader.specs.declared.tree.Line.TheVariants as line
+use Rattle.small_form.specs.declared.tree.Operand.{Operand}
+use Rattle.small_form.specs.declared.tree.Operand.TheVariants as operand
+use Rattle.small_form.specs.declared.tree.Term.{Term}
+use Rattle.small_form.specs.declared.tree.Sum.{Sum}
+use Rattle.small_form.specs.declared.tree.Line.{Line}
+use Rattle.small_form.specs.declared.tree.Line.TheVariants as line
 use Rattle.cache_meaning.specs.SmallUnit.{locals_behind, operand_code, term_code, sum_code, puts_code, statement_code, numbered, at_line, code_of, code_behind, statements_code, file_sequence, slot_of}
 
 -- ---- instructions that go straight on

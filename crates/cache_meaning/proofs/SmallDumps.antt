@@ -10,12 +10,12 @@ use Rattle.iseq_types.specs.declared.instructions.Literal.TheVariants.{Int}
 use Rattle.iseq_types.specs.declared.sequences.Line.{Line as CodeLine}
 use Rattle.iseq_types.specs.declared.sequences.Unit.{Unit as CompiledUnit}
 use Rattle.iseq_dump.specs.Dump.{IsNumber, IsText, IsList, IsLiteral, IsInstr, IsLine, IsBody, groups, number_bytes, text_bytes, list_bytes, instr_bytes, row_bytes, line_bytes, flag_byte, body_bytes, entry_bytes, head_of, head_bytes, Spells}
-use Rattle.ruby_reader.specs.declared.tree.Line.{Line}
-use Rattle.ruby_reader.specs.declared.tree.Program.{Program}
+use Rattle.small_form.specs.declared.tree.Line.{Line}
+use Rattle.small_form.specs.declared.tree.SmallFile.{SmallFile}
 use Rattle.cache_meaning.specs.Payload.{dump_of}
 use Rattle.cache_meaning.specs.SmallUnit.{file_sequence, unit_of_program, unit_of}
 use Rattle.cache_meaning.proofs.SmallInstructions.{IsSmallLiteral, IsOwnSlot, IsSmallInstr, IsSmallLine, code_small}
-use Rattle.cache_meaning.proofs.SmallLines.{IsSmallProgram, program_small}
+use Rattle.cache_meaning.proofs.SmallLines.{IsSmallProgram}
 use Rattle.cache_meaning.proofs.SmallUnits.{program_behind, rows_fit}
 
 -- ---- texts and lists
@@ -117,11 +117,11 @@ body_fits lines small lt =
 path_within : (path rest : List ℕ) (a b c d : ℕ) → length (text_bytes path) ≤ length (a ∷ b ∷ c ∷ d ∷ text_bytes path ++ rest)
 path_within path rest a b c d = omega (arith, length-append (text_bytes path) rest)
 
-program_spelled : (path : List ℕ) (program : Program) → IsSmallProgram program.lines → length (dump_of (unit_of_program path program)) < 2 ^ 64 → Spells (unit_of_program path program) (dump_of (unit_of_program path program))
+program_spelled : (path : List ℕ) (file : SmallFile) → IsSmallProgram file.lines → length (dump_of (unit_of_program path file)) < 2 ^ 64 → Spells (unit_of_program path file) (dump_of (unit_of_program path file))
 unfolding dump_of head_of
-program_spelled path program small lt =
-    let u = unit_of_program path program in
-    let lines = program.lines in
+program_spelled path file small lt =
+    let u = unit_of_program path file in
+    let lines = file.lines in
     let head = head_of u in
     let body = file_sequence lines in
     let all = length-append (head_bytes head) (flat_map body_bytes u.bodies) in
@@ -142,4 +142,4 @@ program_spelled path program small lt =
 pub spelled_by : (path text : List ℕ) (u : CompiledUnit) → unit_of path text ≡ Some u → length (dump_of u) < 2 ^ 64 → Spells u (dump_of u)
 spelled_by path text u e =
     let p = program_behind path text u e in
-    subst (λ (v : CompiledUnit). length (dump_of v) < 2 ^ 64 → Spells v (dump_of v)) p.2 (program_spelled path p.0 (program_small text p.0 p.1))
+    subst (λ (v : CompiledUnit). length (dump_of v) < 2 ^ 64 → Spells v (dump_of v)) p.2 (program_spelled path p.0 p.1)

@@ -7,14 +7,14 @@ use Rattle.iseq_types.specs.declared.instructions.Instr.TheVariants.{Pop, Dup, P
 use Rattle.iseq_types.specs.declared.instructions.Literal.{Literal}
 use Rattle.iseq_types.specs.declared.instructions.Literal.TheVariants.{Int}
 use Rattle.iseq_types.specs.declared.sequences.Line.{Line as CodeLine}
-use Rattle.ruby_reader.specs.declared.tree.Operand.{Operand}
-use Rattle.ruby_reader.specs.declared.tree.Operand.TheVariants as operand
-use Rattle.ruby_reader.specs.declared.tree.Operator.{Operator}
-use Rattle.ruby_reader.specs.declared.tree.Operator.TheVariants as operator
-use Rattle.ruby_reader.specs.declared.tree.Term.{Term}
-use Rattle.ruby_reader.specs.declared.tree.Sum.{Sum}
-use Rattle.ruby_reader.specs.declared.tree.Line.{Line}
-use Rattle.ruby_reader.specs.declared.tree.Line.TheVariants as line
+use Rattle.small_form.specs.declared.tree.Operand.{Operand}
+use Rattle.small_form.specs.declared.tree.Operand.TheVariants as operand
+use Rattle.small_form.specs.declared.tree.Operator.{Operator}
+use Rattle.small_form.specs.declared.tree.Operator.TheVariants as operator
+use Rattle.small_form.specs.declared.tree.Term.{Term}
+use Rattle.small_form.specs.declared.tree.Sum.{Sum}
+use Rattle.small_form.specs.declared.tree.Line.{Line}
+use Rattle.small_form.specs.declared.tree.Line.TheVariants as line
 use Rattle.cache_meaning.specs.SmallUnit.{is_among, locals_behind, operand_code, operator_name, term_code, sum_code, puts_code, statement_code, numbered, at_line, code_of, code_behind, statements_code, file_sequence}
 use Rattle.cache_meaning.proofs.SmallLines.{IsOperandBy, IsTermBy, IsSumBy, FitsLocals, IsSmallProgram, slot_below}
 

@@ -1,23 +1,24 @@
 -- What the lines of a small file are: their numbers are small, and each name that they read or assign is among the locals.
-use Rattle.std.proofs.Common.{◌≡◌, ℕ, suc, pos, negsuc, ◌+◌, ◌^◌, ◌<◌, ◌≤◌, Bool, true, false, cond, not, is_some, Option, Some, None, List, [], ◌∷◌, ◌++◌, length, refl, sym, ap, subst, ◌∙◌, arith, ⊎_elim, inl, inr}
-use Rattle.std.specs.Prelude.{⊤, ◌⊎◌, ◌||◌, ◌&&◌, ◌==◌, nat_le, nat_lt, codes}
-use Rattle.std.specs.List.{list_any, position_or_len, AllByRecursion}
+use Rattle.std.proofs.Common.{◌≡◌, ℕ, ℤ, zero, suc, pos, negsuc, ◌+◌, ◌-◌, ◌^◌, ◌<◌, ◌≤◌, Bool, true, false, cond, not, is_some, Option, Some, None, List, [], ◌∷◌, ◌++◌, length, refl, sym, ap, subst, ◌∙◌, arith}
+use Rattle.std.specs.Prelude.{⊤, ◌||◌, ◌&&◌, nat_le, nat_lt, codes, replicate}
+use Rattle.std.specs.List.{list_any, list_all, position_or_len, AllByRecursion}
 use Rattle.std.specs.Ordering.{nat_cmp, eq_by_cmp}
 use Rattle.std.specs.Cmp.Lexicographic.{slice_cmp, nat_list_cmp_total, nat_list_eq_equiv, texts_ties, same_text}
 use Rattle.std.specs.FinMap as map
 use Rattle.std.proofs.lemmas.Bool.{false≢true, ltb-true, leb-true, lt-ltb}
 use Rattle.std.proofs.lemmas.List.Folds.{list_any-append}
-use Rattle.bs_outside.specs.Parts.{parts_of}
 use Rattle.bs_outside.specs.Paths.{same_bytes}
-use Rattle.ruby_reader.specs.declared.tree.Operand.{Operand}
-use Rattle.ruby_reader.specs.declared.tree.Operand.TheVariants as operand
-use Rattle.ruby_reader.specs.declared.tree.Operator.{Operator}
-use Rattle.ruby_reader.specs.declared.tree.Term.{Term}
-use Rattle.ruby_reader.specs.declared.tree.Sum.{Sum}
-use Rattle.ruby_reader.specs.declared.tree.Line.{Line}
-use Rattle.ruby_reader.specs.declared.tree.Line.TheVariants as line
-use Rattle.ruby_reader.specs.declared.tree.Program.{Program}
-use Rattle.ruby_reader.specs.SmallFile.{Names, is_number, number_of, are_digits, is_name, is_text_line, text_within, operand_of, operator_of, term_with, put_term, terms_of, put_first, sum_of, put_line_of, assign_line_of, assigned_of, worded_of, line_of, names_after, put_line, lines_read, lines_of, program_with, program_of}
+use Rattle.small_form.specs.declared.tree.Operand.{Operand}
+use Rattle.small_form.specs.declared.tree.Operand.TheVariants as operand
+use Rattle.small_form.specs.declared.tree.Operator.{Operator}
+use Rattle.small_form.specs.declared.tree.Term.{Term}
+use Rattle.small_form.specs.declared.tree.Sum.{Sum}
+use Rattle.small_form.specs.declared.tree.Line.{Line}
+use Rattle.small_form.specs.declared.tree.Line.TheVariants as line
+use Rattle.small_form.specs.declared.tree.SmallFile.{SmallFile}
+use Rattle.ruby_tree.specs.Tree.{Goal, to_local, Tree, at, integer, text as text_form, local, assign, send, statements, Trees, no_more, more, without, with}
+use Rattle.small_form.specs.declared.TheConstants.{LINE_LIMIT, OPERAND_LIMIT}
+use Rattle.small_form.specs.SmallForm.{Names, stands_in, number_by, operand_of, operator_of, is_plain, only_operand, alone, with_term, sum_of, short_sum, is_text_byte, puts_line, put_of, only_put, assigned, line_of, names_after, first_line, put_line, lines_from, begins_in_line_1, file_with, small_of}
 use Rattle.cache_meaning.specs.SmallUnit.{is_among, with_name, locals_behind, slot_of}
 
 -- ---- what is read
@@ -54,104 +55,132 @@ abbrev pub AreLines : Names → List Line → Type 0
 AreLines names [] = ⊤
 AreLines names (l ∷ lines) = ReadsBy (λ name. map.contains_key names name) l × AreLines (names_after names (Some l)) lines
 
--- ---- the lines that a text is read as
+-- ---- the lines that a tree is
 
 both_true : (a b : Bool) → (a && b) ≡ true → (a ≡ true) × (b ≡ true)
 both_true true b e = (refl, e)
 both_true false b e = absurd cc
 
-number_small : (word : List ℕ) → is_number word ≡ true → number_of word < 2 ^ 63
-number_small word e = ltb-true _ _ (both_true (are_digits word) (nat_lt (number_of word) (2 ^ 63)) e).1
+kept_some : {A : Type 0} (b : Bool) (o : Option A) (y : A) → cond b o None ≡ Some y → (b ≡ true) × (o ≡ Some y)
+kept_some true o y e = (refl, e)
+kept_some false o y e = absurd cc
 
-operand_by : (names : Names) (word : List ℕ) (x : Operand) (b d : Bool) → b ≡ is_number word → d ≡ map.contains_key names word → cond b (Some (operand.Number (pos (number_of word)))) (cond d (Some (operand.Name word)) None) ≡ Some x → IsOperandBy (λ name. map.contains_key names name) x
-operand_by names word x true d n k e = let same : operand.Number (pos (number_of word)) ≡ x = cc in subst (IsOperandBy (λ name. map.contains_key names name)) same (number_small word (sym n))
-operand_by names word x false true n k e = let same : operand.Name word ≡ x = cc in subst (IsOperandBy (λ name. map.contains_key names name)) same (sym k)
-operand_by names word x false false n k e = absurd cc
+with_last : {X : Type 0} (P : X → Type 0) (xs : List X) (x : X) → AllByRecursion P xs → P x → AllByRecursion P (xs ++ x ∷ [])
+with_last P [] x are is = (is, tt)
+with_last P (y ∷ xs) x are is = (are.0, with_last P xs x are.1 is)
 
-operand_is : (names : Names) (word : List ℕ) (x : Operand) → operand_of names word ≡ Some x → IsOperandBy (λ name. map.contains_key names name) x
-operand_is names word x e = operand_by names word x (is_number word) (map.contains_key names word) refl refl e
+-- a sum, and a term behind it
+with_some : (o : Option Sum) (f : Option Operator) (x : Option Operand) (s : Sum) → with_term o f x ≡ Some s → (a : Sum) × (g : Operator) × (y : Operand) × (o ≡ Some a) × (x ≡ Some y) × (record { first = a.first; rest = a.rest ++ record { operator = g; operand = y } ∷ [] } ≡ s)
+with_some None None None s e = absurd cc
+with_some None None (Some y) s e = absurd cc
+with_some None (Some g) None s e = absurd cc
+with_some None (Some g) (Some y) s e = absurd cc
+with_some (Some a) None None s e = absurd cc
+with_some (Some a) None (Some y) s e = absurd cc
+with_some (Some a) (Some g) None s e = absurd cc
+with_some (Some a) (Some g) (Some y) s e = (a, g, y, refl, refl, cc)
 
-term_some : (o : Option Operator) (x : Option Operand) (t : Term) → term_with o x ≡ Some t → x ≡ Some t.operand
-term_some None x t e = absurd cc
-term_some (Some o) None t e = absurd cc
-term_some (Some o) (Some x) t e = let made : Term = record { operator = o; operand = x } in let same : made ≡ t = cc in ap (λ (m : Term). Some m.operand) same
+put_line_some : (empty : ℕ) (o : Option Line) (m : Option (List Line)) (lines : List Line) → put_line empty o m ≡ Some lines → (l : Line) × (rest : List Line) × (o ≡ Some l) × (m ≡ Some rest) × ((replicate empty line.Empty ++ l ∷ []) ++ rest ≡ lines)
+put_line_some empty None None lines e = absurd cc
+put_line_some empty None (Some rest) lines e = absurd cc
+put_line_some empty (Some l) None lines e = absurd cc
+put_line_some empty (Some l) (Some rest) lines e = (l, rest, refl, refl, cc)
 
-put_term_some : (o : Option Term) (m : Option (List Term)) (terms : List Term) → put_term o m ≡ Some terms → (t : Term) × (more : List Term) × (o ≡ Some t) × (m ≡ Some more) × (t ∷ more ≡ terms)
-put_term_some None m terms e = absurd cc
-put_term_some (Some t) None terms e = absurd cc
-put_term_some (Some t) (Some more) terms e = (t, more, refl, refl, cc)
+module _ (n : ℕ) (names : Names) where
+  abbrev known : List ℕ → Bool
+  known name = map.contains_key names name
 
-terms_are : (names : Names) (words : List (List ℕ)) (terms : List Term) → terms_of names words ≡ Some terms → AllByRecursion (IsTermBy (λ name. map.contains_key names name)) terms
-terms_are names [] terms e = let same : [] ≡ terms = cc in subst (AllByRecursion (IsTermBy (λ name. map.contains_key names name))) same tt
-terms_are names (word ∷ []) terms e = absurd cc
-terms_are names (word ∷ next ∷ words) terms e =
-    let s = put_term_some (term_with (operator_of word) (operand_of names next)) (terms_of names words) terms e in
-    subst (AllByRecursion (IsTermBy (λ name. map.contains_key names name))) s.4 (operand_is names next s.0.operand (term_some (operator_of word) (operand_of names next) s.0 s.2), terms_are names words s.1 s.3)
+  number_is : (z : ℤ) (x : Operand) → number_by z ≡ Some x → IsOperandBy known x
+  number_is (pos k) x e =
+      let s = kept_some (nat_lt k (2 ^ 63)) (Some (operand.Number (pos k))) x e in
+      let same : operand.Number (pos k) ≡ x = cc in
+      subst (IsOperandBy known) same (ltb-true k (2 ^ 63) s.0)
+  number_is (negsuc k) x e = absurd cc
 
-first_some : (x : Option Operand) (m : Option (List Term)) (s : Sum) → put_first x m ≡ Some s → (x ≡ Some s.first) × (m ≡ Some s.rest)
-first_some None m s e = absurd cc
-first_some (Some x) None s e = absurd cc
-first_some (Some x) (Some terms) s e =
-    let made : Sum = record { first = x; rest = terms } in
-    let same : made ≡ s = few _ made e in
-    (ap (λ (m : Sum). Some m.first) same, ap (λ (m : Sum). Some m.rest) same)
-  where
-    few : (b : Bool) (made : Sum) → cond b (Some made) None ≡ Some s → made ≡ s
-    few true made e = cc
-    few false made e = absurd cc
+  operand_is : (t : Tree) (x : Operand) → operand_of n names t ≡ Some x → IsOperandBy known x
+  operand_is (at o (integer z)) x e = number_is z x (kept_some (stands_in n o) (number_by z) x e).1
+  operand_is (at o (local f)) x e =
+      let s = kept_some (stands_in n o && map.contains_key names f) (Some (operand.Name f)) x e in
+      let same : operand.Name f ≡ x = cc in
+      subst (IsOperandBy known) same (both_true (stands_in n o) (map.contains_key names f) s.0).1
+  operand_is _ x e = absurd cc
 
-sum_is : (names : Names) (words : List (List ℕ)) (s : Sum) → sum_of names words ≡ Some s → IsSumBy (λ name. map.contains_key names name) s
-sum_is names [] s e = absurd cc
-sum_is names (word ∷ words) s e =
-    let f = first_some (operand_of names word) (terms_of names words) s e in
-    record { first = operand_is names word s.first f.0; rest = terms_are names words s.rest f.1 }
+  only_is : (ts : Trees) (x : Operand) → only_operand n names ts ≡ Some x → IsOperandBy known x
+  only_is no_more x e = absurd cc
+  only_is (more t no_more) x e = operand_is t x e
+  only_is (more t (more v ts)) x e = absurd cc
 
--- one of two
-one_of : {A : Type 0} (b : Bool) (o p : Option A) (y : A) → cond b o p ≡ Some y → (o ≡ Some y) ⊎ (p ≡ Some y)
-one_of true o p y e = inl e
-one_of false o p y e = inr e
+  alone_is : (o : Option Operand) (s : Sum) → ((x : Operand) → o ≡ Some x → IsOperandBy known x) → alone o ≡ Some s → IsSumBy known s
+  alone_is None s h e = absurd cc
+  alone_is (Some x) s h e =
+      let made : Sum = record { first = x; rest = [] } in
+      let same : made ≡ s = cc in
+      subst (IsSumBy known) same (record { first = h x refl; rest = tt })
 
-puts_is : (names : Names) (o : Option Sum) (l : Line) → ((s : Sum) → o ≡ Some s → IsSumBy (λ name. map.contains_key names name) s) → put_line_of o ≡ Some l → ReadsBy (λ name. map.contains_key names name) l
-puts_is names None l h e = absurd cc
-puts_is names (Some s) l h e = let same : line.PutsSum s ≡ l = cc in subst (ReadsBy (λ name. map.contains_key names name)) same (h s refl)
+  sum_is : (t : Tree) (s : Sum) → sum_of n names t ≡ Some s → IsSumBy known s
+  sum_is (at o (send (with a) ts spread value f by_itself block)) s e =
+      let k = kept_some (stands_in n o && is_plain spread value by_itself block) (with_term (sum_of n names a) (operator_of f) (only_operand n names ts)) s e in
+      let w = with_some (sum_of n names a) (operator_of f) (only_operand n names ts) s k.1 in
+      let is = sum_is a w.0 w.3 in
+      subst (IsSumBy known) w.5 (record { first = is.first; rest = with_last (IsTermBy known) w.0.rest (record { operator = w.1; operand = w.2 }) is.rest (only_is ts w.2 w.4) })
+  sum_is t s e = alone_is (operand_of n names t) s (operand_is t) e
 
-assign_is : (names : Names) (name : List ℕ) (o : Option Sum) (l : Line) → ((s : Sum) → o ≡ Some s → IsSumBy (λ name. map.contains_key names name) s) → assign_line_of name o ≡ Some l → ReadsBy (λ name. map.contains_key names name) l
-assign_is names name None l h e = absurd cc
-assign_is names name (Some s) l h e = let same : line.Assign name s ≡ l = cc in subst (ReadsBy (λ name. map.contains_key names name)) same (h s refl)
+  short_is : (t : Tree) (o : Option Sum) (s : Sum) → o ≡ sum_of n names t → short_sum o ≡ Some s → IsSumBy known s
+  short_is t None s is e = absurd cc
+  short_is t (Some a) s is e = sum_is t s (sym is ∙ (kept_some (nat_lt (length a.rest) OPERAND_LIMIT) (Some a) s e).1)
 
-assigned_is : (names : Names) (name : List ℕ) (words : List (List ℕ)) (l : Line) → assigned_of names name words ≡ Some l → ReadsBy (λ name. map.contains_key names name) l
-assigned_is names name [] l e = absurd cc
-assigned_is names name (word ∷ words) l e = ⊎_elim (assign_is names name (sum_of names words) l (sum_is names words)) (λ none. absurd cc) (one_of (same_bytes word (codes "=")) (assign_line_of name (sum_of names words)) None l e)
+  puts_is : (o : Option Sum) (l : Line) → ((s : Sum) → o ≡ Some s → IsSumBy known s) → puts_line o ≡ Some l → ReadsBy known l
+  puts_is None l h e = absurd cc
+  puts_is (Some s) l h e = let same : line.PutsSum s ≡ l = cc in subst (ReadsBy known) same (h s refl)
 
-worded_is : (names : Names) (words : List (List ℕ)) (l : Line) → worded_of names words ≡ Some l → ReadsBy (λ name. map.contains_key names name) l
-worded_is names [] l e = absurd cc
-worded_is names (word ∷ words) l e =
-    ⊎_elim (puts_is names (sum_of names words) l (sum_is names words))
-    (λ other. ⊎_elim (assigned_is names word words l) (λ none. absurd cc) (one_of (is_name word) (assigned_of names word words) None l other))
-    (one_of (same_bytes word (codes "puts")) (put_line_of (sum_of names words)) (cond (is_name word) (assigned_of names word words) None) l e)
+  assigned_is : (g : Goal) (o : Option Sum) (l : Line) → ((s : Sum) → o ≡ Some s → IsSumBy known s) → assigned g o ≡ Some l → ReadsBy known l
+  assigned_is (to_local f) None l h e = absurd cc
+  assigned_is (to_local f) (Some s) l h e = let same : line.Assign f s ≡ l = cc in subst (ReadsBy known) same (h s refl)
+  assigned_is _ o l h e = absurd cc
 
-line_is : (names : Names) (bytes : List ℕ) (l : Line) → line_of names bytes ≡ Some l → ReadsBy (λ name. map.contains_key names name) l
-line_is names bytes l e =
-    ⊎_elim (λ empty. let same : line.Empty ≡ l = cc in subst (ReadsBy (λ name. map.contains_key names name)) same tt)
-    (λ other. ⊎_elim (λ text. let same : line.PutsText (text_within bytes) ≡ l = cc in subst (ReadsBy (λ name. map.contains_key names name)) same tt) (worded_is names (parts_of 32 bytes) l)
-    (one_of (is_text_line bytes) (Some (line.PutsText (text_within bytes))) (worded_of names (parts_of 32 bytes)) l other))
-    (one_of (length bytes == 0) (Some line.Empty) (cond (is_text_line bytes) (Some (line.PutsText (text_within bytes))) (worded_of names (parts_of 32 bytes))) l e)
+  put_is : (t : Tree) (l : Line) → put_of n names t ≡ Some l → ReadsBy known l
+  put_is (at o (text_form f)) l e =
+      let s = kept_some (stands_in n o && list_all is_text_byte f) (Some (line.PutsText f)) l e in
+      let same : line.PutsText f ≡ l = cc in
+      subst (ReadsBy known) same tt
+  put_is t l e = puts_is (short_sum (sum_of n names t)) l (λ s is. short_is t (sum_of n names t) s refl is) e
 
-put_line_some : (o : Option Line) (m : Option (List Line)) (lines : List Line) → put_line o m ≡ Some lines → (l : Line) × (more : List Line) × (o ≡ Some l) × (m ≡ Some more) × (l ∷ more ≡ lines)
-put_line_some None m lines e = absurd cc
-put_line_some (Some l) None lines e = absurd cc
-put_line_some (Some l) (Some more) lines e = (l, more, refl, refl, cc)
+  only_put_is : (ts : Trees) (l : Line) → only_put n names ts ≡ Some l → ReadsBy known l
+  only_put_is no_more l e = absurd cc
+  only_put_is (more t no_more) l e = put_is t l e
+  only_put_is (more t (more v ts)) l e = absurd cc
 
--- each line that was read reads names that earlier ones assigned
-pub lines_are : (names : Names) (texts : List (List ℕ)) (lines : List Line) → lines_read names texts ≡ Some lines → AreLines names lines × (length lines ≡ length texts)
-lines_are names [] lines e =
+  line_is : (t : Tree) (l : Line) → line_of n names t ≡ Some l → ReadsBy known l
+  line_is (at o (assign v g)) l e = assigned_is g (short_sum (sum_of n names v)) l (λ s is. short_is v (sum_of n names v) s refl is) (kept_some (stands_in n o) (assigned g (short_sum (sum_of n names v))) l e).1
+  line_is (at o (send without ts spread value f by_itself block)) l e =
+      only_put_is ts l (kept_some (stands_in n o && (is_plain spread value by_itself block && same_bytes f (codes "puts"))) (only_put n names ts) l e).1
+  line_is _ l e = absurd cc
+
+-- empty lines read nothing
+behind_empty : (names : Names) (empty : ℕ) (l : Line) (rest : List Line) → ReadsBy (λ name. map.contains_key names name) l → AreLines (names_after names (Some l)) rest → AreLines names ((replicate empty line.Empty ++ l ∷ []) ++ rest)
+behind_empty names zero l rest is are = (is, are)
+behind_empty names (suc empty) l rest is are = (tt, behind_empty names empty l rest is are)
+
+count_behind : (empty : ℕ) (l : Line) (rest : List Line) → length ((replicate empty line.Empty ++ l ∷ []) ++ rest) ≡ empty + 1 + length rest
+count_behind zero l rest = omega arith
+count_behind (suc empty) l rest = omega (arith, count_behind empty l rest)
+
+-- each line reads names that earlier ones assigned, and there are at most 1,000
+pub lines_are : (n : ℕ) (names : Names) (ts : Trees) (lines : List Line) → n ≤ 1001 → lines_from n names ts ≡ Some lines → AreLines names lines × (length lines + n ≤ 1001)
+lines_are n names no_more lines few e =
     let same : [] ≡ lines = cc in
-    subst (λ (ls : List Line). AreLines names ls × (length ls ≡ 0)) same (tt, refl)
-lines_are names (bytes ∷ texts) lines e =
-    let s = put_line_some (line_of names bytes) (lines_read (names_after names (line_of names bytes)) texts) lines e in
-    let more : lines_read (names_after names (Some s.0)) texts ≡ Some s.1 = ap (λ (o : Option Line). lines_read (names_after names o) texts) (sym s.2) ∙ s.3 in
-    let rest = lines_are (names_after names (Some s.0)) texts s.1 more in
-    subst (λ (ls : List Line). AreLines names ls × (length ls ≡ suc (length texts))) s.4 ((line_is names bytes s.0 s.2, rest.0), ap suc rest.1)
+    subst (λ (ls : List Line). AreLines names ls × (length ls + n ≤ 1001)) same (tt, omega (arith, few))
+lines_are n names (more t ts) lines few e =
+    let m = first_line t in
+    let k = kept_some (nat_le n m && nat_le m LINE_LIMIT) (put_line (m - n) (line_of m names t) (lines_from (suc m) (names_after names (line_of m names t)) ts)) lines e in
+    let b = both_true (nat_le n m) (nat_le m LINE_LIMIT) k.0 in
+    let from : n ≤ m = leb-true n m b.0 in
+    let to : m ≤ 1000 = leb-true m 1000 b.1 in
+    let s = put_line_some (m - n) (line_of m names t) (lines_from (suc m) (names_after names (line_of m names t)) ts) lines k.1 in
+    let rest : lines_from (suc m) (names_after names (Some s.0)) ts ≡ Some s.1 = ap (λ (o : Option Line). lines_from (suc m) (names_after names o) ts) (sym s.2) ∙ s.3 in
+    let are = lines_are (suc m) (names_after names (Some s.0)) ts s.1 (omega (arith, to)) rest in
+    let count = count_behind (m - n) s.0 s.1 in
+    subst (λ (ls : List Line). AreLines names ls × (length ls + n ≤ 1001)) s.4 (behind_empty names (m - n) s.0 s.1 (line_is m names t s.0 s.2) are.0, omega (arith, count, from, are.1))
 
 -- ---- names among the locals
 
@@ -263,24 +292,20 @@ slot_below locals name e =
     let lt = place_below (λ other. same_bytes other name) locals e in
     rw (lt-ltb (position_or_len (λ other. same_bytes other name) locals) (length locals) lt) lt
 
--- ---- the program
+-- ---- the file
 
 pub record IsSmallProgram (lines : List Line) : Type 0 where
   pub fit : AllByRecursion (FitsLocals (locals_behind [] lines)) lines
   pub few : length lines ≤ 1000
 
-program_some : (o : Option (List Line)) (program : Program) → program_with o ≡ Some program → o ≡ Some program.lines
-program_some None program e = absurd cc
-program_some (Some lines) program e = let made : Program = record { lines = lines } in let same : made ≡ program = cc in ap (λ (p : Program). Some p.lines) same
+file_some : (o : Option (List Line)) (file : SmallFile) → file_with o ≡ Some file → o ≡ Some file.lines
+file_some None file e = absurd cc
+file_some (Some lines) file e = let made : SmallFile = record { lines = lines } in let same : made ≡ file = cc in ap (λ (p : SmallFile). Some p.lines) same
 
-kept_some : {A : Type 0} (b : Bool) (o : Option A) (y : A) → cond b o None ≡ Some y → (b ≡ true) × (o ≡ Some y)
-kept_some true o y e = (refl, e)
-kept_some false o y e = absurd cc
-
-pub program_small : (text : List ℕ) (program : Program) → program_of text ≡ Some program → IsSmallProgram program.lines
-program_small text program e =
-    let k = kept_some _ (program_with (lines_read map.empty (lines_of text))) program e in
-    let read = program_some (lines_read map.empty (lines_of text)) program k.1 in
-    let are = lines_are map.empty (lines_of text) program.lines read in
-    let few : length (lines_of text) ≤ 1000 = leb-true _ _ (both_true _ (nat_le (length (lines_of text)) 1000) k.0).1 in
-    record { fit = all_fit map.empty [] program.lines none_known are.0; few = omega (arith, are.1, few) }
+pub small_is : (t : Tree) (file : SmallFile) → small_of t ≡ Some file → IsSmallProgram file.lines
+small_is (at o (statements ts)) file e =
+    let k = kept_some (begins_in_line_1 o.line ts) (file_with (lines_from 1 map.empty ts)) file e in
+    let read = file_some (lines_from 1 map.empty ts) file k.1 in
+    let are = lines_are 1 map.empty ts file.lines (omega arith) read in
+    record { fit = all_fit map.empty [] file.lines none_known are.0; few = omega (arith, are.1) }
+small_is _ file e = absurd cc

@@ -15,12 +15,12 @@ use Rattle.iseq_types.specs.Instructions.{needs_of, target_of, depth_after}
 use Rattle.iseq_types.specs.Ways.{Way, begins, enters, catches_on, retries, follows, jumps}
 use Rattle.iseq_types.specs.Sound.{EachThrow, EndsRight, FindsLocal, HasKnownOperands, InstrNamesChild, IsSound, SpreadsBelow}
 use Rattle.iseq_dump.specs.Dump.{HasSoundBodies}
-use Rattle.ruby_reader.specs.declared.tree.Line.{Line}
-use Rattle.ruby_reader.specs.declared.tree.Program.{Program}
+use Rattle.small_form.specs.declared.tree.Line.{Line}
+use Rattle.small_form.specs.declared.tree.SmallFile.{SmallFile}
 use Rattle.cache_meaning.specs.SmallUnit.{locals_behind, numbered, at_line, statements_code, file_sequence, file_row, unit_of_program, unit_of}
 use Rattle.cache_meaning.proofs.SmallDepths.{code_goes, depth_at, depth_next, finds_enough}
 use Rattle.cache_meaning.proofs.SmallInstructions.{IsSmallInstr, IsSmallLine, code_small}
-use Rattle.cache_meaning.proofs.SmallLines.{IsSmallProgram, program_small}
+use Rattle.cache_meaning.proofs.SmallLines.{IsSmallProgram}
 use Rattle.cache_meaning.proofs.SmallUnits.{program_behind}
 
 -- ---- what each instruction is
@@ -171,9 +171,9 @@ module _ (lines : List Line) (small : IsSmallProgram lines) where
 
 -- ---- the unit
 
-sound_at : (path : List ℕ) (program : Program) → IsSmallProgram program.lines → HasSoundBodies (unit_of_program path program)
-sound_at path program small zero body e = let same : file_sequence program.lines ≡ body = cc in subst (λ (b : Sequence). IsSound b (file_row program.lines ∷ []) 0) same (file_sound program.lines small)
-sound_at path program small (suc id) body e = absurd cc
+sound_at : (path : List ℕ) (file : SmallFile) → IsSmallProgram file.lines → HasSoundBodies (unit_of_program path file)
+sound_at path file small zero body e = let same : file_sequence file.lines ≡ body = cc in subst (λ (b : Sequence). IsSound b (file_row file.lines ∷ []) 0) same (file_sound file.lines small)
+sound_at path file small (suc id) body e = absurd cc
 
 pub sound_by : (path text : List ℕ) (u : CompiledUnit) → unit_of path text ≡ Some u → HasSoundBodies u
-sound_by path text u e = let p = program_behind path text u e in subst HasSoundBodies p.2 (sound_at path p.0 (program_small text p.0 p.1))
+sound_by path text u e = let p = program_behind path text u e in subst HasSoundBodies p.2 (sound_at path p.0 p.1)

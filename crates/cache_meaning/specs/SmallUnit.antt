@@ -1,5 +1,5 @@
 -- A small file compiled: one sequence, whose instructions go straight on from the first to the last.
-use Rattle.std.specs.Prelude.{ℕ, ◌+◌, Bool, false, cond, unwrap_or, Option, List, [], ◌∷◌, ◌++◌, length, map, codes}
+use Rattle.std.specs.Prelude.{ℕ, ◌+◌, Bool, false, cond, unwrap_or, Option, None, List, [], ◌∷◌, ◌++◌, length, map, codes}
 use Rattle.std.specs.List.{flat_map, list_any, position}
 use Rattle.std.specs.Option.{option_map}
 use Rattle.bs_outside.specs.Paths.{same_bytes}
@@ -11,16 +11,17 @@ use Rattle.iseq_types.specs.declared.sequences.Line.{Line as CodeLine}
 use Rattle.iseq_types.specs.declared.sequences.Sequence.{Sequence}
 use Rattle.iseq_types.specs.declared.sequences.IndexRow.{IndexRow}
 use Rattle.iseq_types.specs.declared.sequences.Unit.{Unit as CompiledUnit}
-use Rattle.ruby_reader.specs.SmallFile.{program_of}
-use Rattle.ruby_reader.specs.declared.tree.Operand.{Operand}
-use Rattle.ruby_reader.specs.declared.tree.Operand.TheVariants as operand
-use Rattle.ruby_reader.specs.declared.tree.Operator.{Operator}
-use Rattle.ruby_reader.specs.declared.tree.Operator.TheVariants as operator
-use Rattle.ruby_reader.specs.declared.tree.Term.{Term}
-use Rattle.ruby_reader.specs.declared.tree.Sum.{Sum}
-use Rattle.ruby_reader.specs.declared.tree.Line.{Line}
-use Rattle.ruby_reader.specs.declared.tree.Line.TheVariants as line
-use Rattle.ruby_reader.specs.declared.tree.Program.{Program}
+use Rattle.ruby_reader.specs.ReadingOf.{Reading, tree, fault, reading_of}
+use Rattle.small_form.specs.SmallForm.{small_of}
+use Rattle.small_form.specs.declared.tree.Operand.{Operand}
+use Rattle.small_form.specs.declared.tree.Operand.TheVariants as operand
+use Rattle.small_form.specs.declared.tree.Operator.{Operator}
+use Rattle.small_form.specs.declared.tree.Operator.TheVariants as operator
+use Rattle.small_form.specs.declared.tree.Term.{Term}
+use Rattle.small_form.specs.declared.tree.Sum.{Sum}
+use Rattle.small_form.specs.declared.tree.Line.{Line}
+use Rattle.small_form.specs.declared.tree.Line.TheVariants as line
+use Rattle.small_form.specs.declared.tree.SmallFile.{SmallFile}
 
 -- ---- locals
 
@@ -114,10 +115,15 @@ file_sequence lines = record {
 abbrev pub file_row : List Line → IndexRow
 file_row lines = record { kind = kinds.File; parent = 0; locals = length (locals_behind [] lines) }
 
--- The unit of a small file's program: the file's sequence, and no other.
-abbrev pub unit_of_program : List ℕ → Program → CompiledUnit
-unit_of_program path program = record { path = path; rows = file_row program.lines ∷ []; bodies = file_sequence program.lines ∷ [] }
+-- The unit of a small file: the file's sequence, and no other.
+abbrev pub unit_of_program : List ℕ → SmallFile → CompiledUnit
+unit_of_program path file = record { path = path; rows = file_row file.lines ∷ []; bodies = file_sequence file.lines ∷ [] }
 
--- The unit of a file's text. By now only the text of a small file has one.
+-- The unit of what a file is read as. By now only a small file has one.
+abbrev pub unit_by : List ℕ → Reading → Option CompiledUnit
+unit_by path (tree t) = option_map (unit_of_program path) (small_of t)
+unit_by path (fault line) = None
+
+-- The unit of a file's text.
 unfoldable pub unit_of : List ℕ → List ℕ → Option CompiledUnit
-unit_of path text = option_map (unit_of_program path) (program_of text)
+unit_of path text = unit_by path (reading_of text)

@@ -16,7 +16,11 @@ use Rattle.cache_key.specs.Key.{FitsKey, cache_name_of}
 use Rattle.cache_key.specs.declared.events.Event.{Event}
 use Rattle.cache_key.specs.declared.events.Event.TheVariants.{Miss, Hit, Stale, Revalidated}
 use Rattle.iseq_types.specs.declared.sequences.Unit.{Unit as CompiledUnit}
-use Rattle.cache_meaning.specs.SmallUnit.{unit_of}
+use Rattle.ruby_reader.specs.ReadingOf.{Reading, reading_of}
+use Rattle.ruby_reader.specs.ReadingOf as reading
+use Rattle.small_form.specs.SmallForm.{small_of}
+use Rattle.small_form.specs.declared.tree.SmallFile.{SmallFile}
+use Rattle.cache_meaning.specs.SmallUnit.{unit_of_program, unit_by, unit_of}
 use Rattle.cache_meaning.specs.Payload.{payload_of, dump_of}
 use Rattle.cache_meaning.specs.Entry.{Version, version_of_found, file_at, IsFileOf, stat_of, numbers_with, numbers_of, items_with, items_of}
 use Rattle.cache_meaning.specs.Fits.{IsWhole}
@@ -25,7 +29,7 @@ use Rattle.cache_meaning.specs.Visits.{unless_hit}
 use Rattle.cache_meaning.proofs.LeftOut.{part-nothing, part-each}
 use Rattle.cache_meaning.proofs.SmallUnits.{dumped_by}
 use Rattle.iseq_dump.specs.Dump.{CanBeDumped}
-use Rattle.compile_cache.specs.Fetching.{got_with, got_of_found, got_of, payload_in, items_with_name, due, IsSource, PutsNothingOrFits, PutsSource, PutsSourcePart}
+use Rattle.compile_cache.specs.Fetching.{got_of_small, got_by, got_of_found, got_of, payload_in, items_with_name, due, IsSource, PutsNothingOrFits, PutsSource, PutsSourcePart}
 use Rattle.compile_cache.specs.declared.fetched.Got.{Got}
 use Rattle.compile_cache.specs.declared.fetched.Got.TheVariants as got
 
@@ -60,13 +64,17 @@ none_found path None is = refl
 none_found path (Some (found.Dir mtime)) is = refl
 none_found path (Some (found.File contents mtime)) is = absurd cc
 
-with_not_gone : (o : Option CompiledUnit) → got_with o ≡ got.Gone → ⊥
-with_not_gone None is = absurd cc
-with_not_gone (Some u) is = absurd cc
+small_not_gone : (path : List ℕ) (o : Option SmallFile) → got_of_small path o ≡ got.Gone → ⊥
+small_not_gone path None is = absurd cc
+small_not_gone path (Some file) is = absurd cc
+
+read_not_gone : (path : List ℕ) (r : Reading) → got_by path r ≡ got.Gone → ⊥
+read_not_gone path (reading.fault line) is = absurd cc
+read_not_gone path (reading.tree t) is = small_not_gone path (small_of t) is
 
 gone_bytes : (path : List ℕ) (o : Option (List ℕ)) → got_of_found path o ≡ got.Gone → o ≡ None
 gone_bytes path None is = refl
-gone_bytes path (Some contents) is = absurd (with_not_gone (unit_of path contents) is)
+gone_bytes path (Some contents) is = absurd (read_not_gone path (reading_of contents) is)
 
 -- nothing is got exactly where no file stands
 pub gone_no_file : (tree : SourceTree) (path : List ℕ) → got_of tree path ≡ got.Gone → file_at tree path ≡ []
@@ -75,9 +83,18 @@ gone_no_file tree path is = gone_found path (map.get tree path) (gone_bytes path
 pub no_file_gone : (tree : SourceTree) (path : List ℕ) → file_at tree path ≡ [] → got_of tree path ≡ got.Gone
 no_file_gone tree path is = ap (got_of_found path) (none_found path (map.get tree path) is)
 
-payload_with : (path contents : List ℕ) (o : Option CompiledUnit) → payload_in (got_with o) ≡ option_map dump_of o
-payload_with path contents None = refl
-payload_with path contents (Some u) = refl
+payload_small : (path : List ℕ) (o : Option SmallFile) → payload_in (got_of_small path o) ≡ option_map dump_of (option_map (unit_of_program path) o)
+payload_small path None = refl
+payload_small path (Some file) = refl
+
+payload_by : (path : List ℕ) (r : Reading) → payload_in (got_by path r) ≡ option_map dump_of (unit_by path r)
+payload_by path (reading.fault line) = refl
+payload_by path (reading.tree t) = payload_small path (small_of t)
+
+-- the payload of what a text comes to is that of its unit
+payload_with : (path contents : List ℕ) → payload_in (got_of_found path (Some contents)) ≡ option_map dump_of (unit_of path contents)
+unfolding unit_of
+payload_with path contents = payload_by path (reading_of contents)
 
 same_items : (v : Version) (o : Option (List ℕ)) → items_with_name (cache_name_of Iseq v.path) (stat_of v) v.contents o ≡ items_with Iseq v o
 same_items v None = refl
@@ -92,7 +109,7 @@ due_is tree path name event stat contents g v source bytes is =
     let same : contents ≡ v.contents = cc in
     let named : name ≡ cache_name_of Iseq v.path = source.name_is ∙ ap (cache_name_of Iseq) (sym at.path_is) in
     let payload : payload_in g ≡ payload_of Iseq v.path v.contents =
-    ap payload_in is ∙ payload_with path contents (unit_of path contents) ∙ (λ i. option_map dump_of (unit_of (sym at.path_is i) (same i))) in
+    ap payload_in is ∙ payload_with path contents ∙ (λ i. option_map dump_of (unit_of (sym at.path_is i) (same i))) in
     (λ i. unless_hit event (items_with_name (named i) (source.stat_is i) (same i) (payload i))) ∙ ap (unless_hit event) (same_items v (payload_of Iseq v.path v.contents))
 
 -- each item of a source is whole where its numbers have 64 bits
@@ -114,7 +131,7 @@ items_whole tree path name event stat contents g v source bytes is payload has f
     let at = at_path tree path v source.file in
     let same : contents ≡ v.contents = cc in
     let of_source : payload_of Iseq v.path v.contents ≡ Some payload =
-    (λ i. option_map dump_of (unit_of (at.path_is i) (sym same i))) ∙ sym (payload_with path contents (unit_of path contents)) ∙ ap payload_in (sym is) ∙ has in
+    (λ i. option_map dump_of (unit_of (at.path_is i) (sym same i))) ∙ sym (payload_with path contents) ∙ ap payload_in (sym is) ∙ has in
     let fits_v : FitsKey (numbers_of v payload) = subst (λ (s : Stat). FitsKey (numbers_with s v.contents payload)) source.stat_is (subst (λ (c : List ℕ). FitsKey (numbers_with stat c payload)) same fits) in
     all_unless (IsWhole tree) event (items_of Iseq v)
     (whole_with tree v (payload_of Iseq v.path v.contents) refl at.file (λ p of. subst (λ (q : List ℕ). FitsKey (numbers_of v q)) (some_is (sym of_source ∙ of)) fits_v))
@@ -146,13 +163,35 @@ part_source tree path name event stat contents g old new bytes is puts (inr fits
 pub all_but_part : {old new : History} {before after : ℕ} {full : List CacheItem} → PutsAllBut old new before after full → PutsPart old new full
 all_but_part puts = (puts.0, puts.1, puts.2.part)
 
-got_unit : (o : Option CompiledUnit) (u : CompiledUnit) → got.Whole u ≡ got_with o → o ≡ Some u
-got_unit None u is = absurd cc
-got_unit (Some w) u is = cc
+small_unit : (path : List ℕ) (o : Option SmallFile) (u : CompiledUnit) → got.Whole u ≡ got_of_small path o → option_map (unit_of_program path) o ≡ Some u
+small_unit path None u is = absurd cc
+small_unit path (Some file) u is = cc
+
+read_unit : (path : List ℕ) (r : Reading) (u : CompiledUnit) → got.Whole u ≡ got_by path r → unit_by path r ≡ Some u
+read_unit path (reading.fault line) u is = absurd cc
+read_unit path (reading.tree t) u is = small_unit path (small_of t) u is
+
+-- the unit of what a text comes to is the text's
+pub got_unit : (path contents : List ℕ) (u : CompiledUnit) → got.Whole u ≡ got_of_found path (Some contents) → unit_of path contents ≡ Some u
+unfolding unit_of
+got_unit path contents u is = read_unit path (reading_of contents) u is
+
+unit_small : (path : List ℕ) (o : Option SmallFile) (u : CompiledUnit) → option_map (unit_of_program path) o ≡ Some u → got.Whole u ≡ got_of_small path o
+unit_small path None u is = absurd cc
+unit_small path (Some file) u is = cc
+
+unit_read : (path : List ℕ) (r : Reading) (u : CompiledUnit) → unit_by path r ≡ Some u → got.Whole u ≡ got_by path r
+unit_read path (reading.fault line) u is = absurd cc
+unit_read path (reading.tree t) u is = unit_small path (small_of t) u is
+
+-- and a text that has a unit comes to it
+pub unit_got : (path contents : List ℕ) (u : CompiledUnit) → unit_of path contents ≡ Some u → got.Whole u ≡ got_of_found path (Some contents)
+unfolding unit_of
+unit_got path contents u is = unit_read path (reading_of contents) u is
 
 -- what was compiled can be dumped
-pub dumped : (path contents : List ℕ) (u : CompiledUnit) → got.Whole u ≡ got_with (unit_of path contents) → CanBeDumped u
-dumped path contents u is = dumped_by path contents u (got_unit (unit_of path contents) u is)
+pub dumped : (path contents : List ℕ) (u : CompiledUnit) → got.Whole u ≡ got_of_found path (Some contents) → CanBeDumped u
+dumped path contents u is = dumped_by path contents u (got_unit path contents u is)
 
 pub part_nothing_in : (o : Option SourceTree) (path : List ℕ) (name : CacheName) (event : Event) (stat : Stat) (h : History) → IfSome o (λ m. PutsSourcePart m path name stat event h h)
 part_nothing_in None path name event stat h = tt
@@ -164,3 +203,10 @@ pub part_source_in : (o : Option SourceTree) (path : List ℕ) (name : CacheName
 part_source_in None path name event stat read contents taken g old new bytes found same is puts fits = tt
 part_source_in (Some m) path name event stat read contents taken g old new bytes found same is puts fits =
     part_source m path name event stat taken g old new (sym bytes ∙ found ∙ ap Some (sym same)) is puts fits
+
+pub puts_source_in : (o : Option SourceTree) (path : List ℕ) (name : CacheName) (event : Event) (stat : Stat) (read : Option (List ℕ)) (contents taken : List ℕ) (g : Got) (old new : History) (before after : ℕ)
+    → IfSome o (λ m. read ≡ bytes_at m path) → read ≡ Some contents → taken ≡ contents → g ≡ got_of_found path (Some taken) → PutsAllBut old new before after (due name event stat taken g)
+    → IfSome o (λ m. PutsSource m path name stat event old new before after)
+puts_source_in None path name event stat read contents taken g old new before after bytes found same is puts = tt
+puts_source_in (Some m) path name event stat read contents taken g old new before after bytes found same is puts =
+    puts_source m path name event stat taken g old new before after (sym bytes ∙ found ∙ ap Some (sym same)) is puts

@@ -26,6 +26,7 @@ none_due h count event items is = subst (λ (e : Event). PutsAllBut h h count co
 pub none_compiled : (h : History) (count : ℕ) (name : CacheName) (stat : Stat) (contents : List ℕ) (payload : Option (List ℕ)) → payload ≡ None → PutsAllBut h h count count (items_with_name name stat contents payload)
 none_compiled h count name stat contents payload is = subst (λ (o : Option (List ℕ)). PutsAllBut h h count count (items_with_name name stat contents o)) (sym is) (put_nothing h count)
 
-pub no_payload : (g : Got) → ((line : ℕ) × (g ≡ got.Fault line)) ⊎ (g ≡ got.Gone) → payload_in g ≡ None
+pub no_payload : (g : Got) → ((line : ℕ) × (g ≡ got.Fault line)) ⊎ ((g ≡ got.NotYet) ⊎ (g ≡ got.Gone)) → payload_in g ≡ None
 no_payload g (inl is) = ap payload_in is.1
-no_payload g (inr is) = ap payload_in is
+no_payload g (inr (inl is)) = ap payload_in is
+no_payload g (inr (inr is)) = ap payload_in is

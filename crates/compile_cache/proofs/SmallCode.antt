@@ -2,8 +2,8 @@
 use Rattle.std.proofs.Common.{◌≡◌, ℕ, ◌+◌, Bool, true, false, List, [], ◌∷◌, ◌++◌, map, refl, ap, append_assoc}
 use Rattle.iseq_types.specs.declared.instructions.Instr.TheVariants.{Pop}
 use Rattle.iseq_types.specs.declared.sequences.Line.{Line as CodeLine}
-use Rattle.ruby_reader.specs.declared.tree.Line.{Line}
-use Rattle.ruby_reader.specs.declared.tree.Line.TheVariants.{Empty, Assign, PutsSum, PutsText}
+use Rattle.small_form.specs.declared.tree.Line.{Line}
+use Rattle.small_form.specs.declared.tree.Line.TheVariants.{Empty, Assign, PutsSum, PutsText}
 use Rattle.cache_meaning.specs.SmallUnit.{numbered, at_line, statement_code}
 use Rattle.compile_cache.specs.SmallSlots.{code_from, is_empty}
 

@@ -36,10 +36,10 @@ use Rattle.cache_meaning.proofs.Moments.{fits_at}
 use Rattle.cache_meaning.proofs.Trust.{trusted_then}
 use Rattle.cache_meaning.proofs.SmallSound.{sound_by}
 use Rattle.cache_meaning.proofs.SmallDumps.{spelled_by}
-use Rattle.compile_cache.specs.Fetching.{got_with, got_of_found, got_of, event_with, IsStatOf, Answers, Stands, HasLooked, IsUnitIn, HoldsUnit, HasHit, HasFetched, IsSource, PutsSource, PutsSourcePart}
+use Rattle.compile_cache.specs.Fetching.{got_of_found, got_of, event_with, IsStatOf, Answers, Stands, HasLooked, IsUnitIn, HoldsUnit, HasHit, HasFetched, IsSource, PutsSource, PutsSourcePart}
 use Rattle.compile_cache.specs.declared.fetched.Got.{Got}
 use Rattle.compile_cache.specs.declared.fetched.Got.TheVariants as got
-use Rattle.compile_cache.proofs.Files.{AtPath, at_path, some_is, gone_no_file}
+use Rattle.compile_cache.proofs.Files.{AtPath, at_path, some_is, gone_no_file, unit_got}
 
 -- ---- the file of a stat
 
@@ -210,7 +210,7 @@ fetched_hit tells (Some m) path stat old mid name image event u before after rea
       fetched tells m path stat old mid name image event file.0 file.1 file.2 trusted named look is mid before after after reads reads (Some event) later (omega arith)
           (λ v source. subst (λ (e : Event). PutsAllBut mid mid after after (unless_hit e (items_of Iseq v))) (sym hit) (put_nothing mid after))
           (sym (added-nil reads) ∙ ap (added reads) (sym none_due)) refl,
-      ap got.Whole same ∙ ap got_with (sym its.1) ∙ ap (got_of_found path) (sym at.bytes_is),
+      ap got.Whole same ∙ unit_got path file.0.contents its.0 its.1 ∙ ap (got_of_found path) (sym at.bytes_is),
     )
 
 -- ---- after the source was compiled anew
@@ -218,6 +218,7 @@ fetched_hit tells (Some m) path stat old mid name image event u before after rea
 anew : (answered : Option Event) (event : Event) (g : Got) (tree : SourceTree) (path : List ℕ) (v : Version) → file_at tree path ≡ v ∷ [] → g ≡ got_of tree path → answered ≡ event_with event g → answered ≡ Some event
 anew answered event (got.Whole u) tree path v here is answer = answer
 anew answered event (got.Fault line) tree path v here is answer = answer
+anew answered event got.NotYet tree path v here is answer = answer
 anew answered event got.Gone tree path v here is answer = let none = gone_no_file tree path (sym is) in absurd cc
 
 -- where the image held no unit, its event was no hit
@@ -241,6 +242,7 @@ none_in (Some a) P not what = absurd (not a refl)
 event_says : (event : Event) (g : Got) → event_with event g ≡ Some Hit → event ≡ Hit
 event_says event (got.Whole u) is = cc
 event_says event (got.Fault line) is = cc
+event_says event got.NotYet is = cc
 event_says event got.Gone is = absurd cc
 
 part_of_none : {kept : List CacheItem} → IsPart kept [] → kept ≡ []

@@ -16,7 +16,11 @@ use Rattle.cache_key.specs.declared.events.Event.{Event}
 use Rattle.cache_key.specs.declared.events.Event.TheVariants.{Hit}
 use Rattle.iseq_dump.specs.Dump.{Spells, HasSoundBodies}
 use Rattle.iseq_types.specs.declared.sequences.Unit.{Unit as CompiledUnit}
-use Rattle.cache_meaning.specs.SmallUnit.{unit_of}
+use Rattle.ruby_reader.specs.ReadingOf.{Reading, reading_of}
+use Rattle.ruby_reader.specs.ReadingOf as reading
+use Rattle.small_form.specs.SmallForm.{small_of}
+use Rattle.small_form.specs.declared.tree.SmallFile.{SmallFile}
+use Rattle.cache_meaning.specs.SmallUnit.{unit_of_program}
 use Rattle.cache_meaning.specs.Payload.{dump_of}
 use Rattle.cache_meaning.specs.Entry.{Version, stat_of, numbers_with, entry_with, file_at, items_of}
 use Rattle.cache_meaning.specs.Fits.{IsWhole, IsTrusted}
@@ -27,15 +31,21 @@ use Rattle.compile_cache.specs.declared.fetched.Got.TheVariants as got
 use Rattle.compile_cache.specs.declared.mode.CacheUse.{CacheUse}
 use Rattle.compile_cache.specs.declared.mode.CacheUse.TheVariants as use_
 
-abbrev pub got_with : Option CompiledUnit → Got
-got_with None = got.Fault 1
-got_with (Some u) = got.Whole u
+abbrev pub got_of_small : List ℕ → Option SmallFile → Got
+got_of_small path None = got.NotYet
+got_of_small path (Some file) = got.Whole (unit_of_program path file)
+
+-- what a text comes to by its reading: the line of its fault, or the unit of the small file that its tree is, where it is one
+abbrev pub got_by : List ℕ → Reading → Got
+got_by path (reading.fault line) = got.Fault line
+got_by path (reading.tree t) = got_of_small path (small_of t)
 
 abbrev pub got_of_found : List ℕ → Option (List ℕ) → Got
 got_of_found path None = got.Gone
-got_of_found path (Some contents) = got_with (unit_of path contents)
+got_of_found path (Some contents) = got_by path (reading_of contents)
 
--- What a fetch of the path gives, whatever the cache holds: the unit of the file's text, the line at which the text has none, or that no file stands there.
+-- What a fetch of the path gives, whatever the cache holds: the unit of the file's text, the line of the fault of a text that has no tree, that the
+-- tree is no small file, or that no file stands there.
 abbrev pub got_of : SourceTree → List ℕ → Got
 got_of tree path = got_of_found path (bytes_at tree path)
 
@@ -47,6 +57,7 @@ reads_of tree path = map (λ (v : Version). v.path) (file_at tree path)
 abbrev pub event_with : Event → Got → Option Event
 event_with event (got.Whole u) = Some event
 event_with event (got.Fault line) = Some event
+event_with event got.NotYet = Some event
 event_with event got.Gone = None
 
 -- What stands under a cache file's name is trusted where the cache is used.
@@ -106,6 +117,7 @@ pub record HasHit (tree : SourceTree) (path : List ℕ) (old new : History) (rea
 abbrev pub payload_in : Got → Option (List ℕ)
 payload_in (got.Whole u) = Some (dump_of u)
 payload_in (got.Fault line) = None
+payload_in got.NotYet = None
 payload_in got.Gone = None
 
 abbrev pub items_with_name : CacheName → Stat → List ℕ → Option (List ℕ) → List CacheItem

@@ -6,8 +6,8 @@ use Rattle.std.specs.Cmp.Lexicographic.{slice_cmp}
 use Rattle.std.specs.FinMap as map
 use Rattle.bs_outside.specs.Paths.{same_bytes}
 use Rattle.iseq_types.specs.declared.sequences.Line.{Line as CodeLine}
-use Rattle.ruby_reader.specs.declared.tree.Line.{Line}
-use Rattle.ruby_reader.specs.declared.tree.Line.TheVariants.{Empty, Assign, PutsSum, PutsText}
+use Rattle.small_form.specs.declared.tree.Line.{Line}
+use Rattle.small_form.specs.declared.tree.Line.TheVariants.{Empty, Assign, PutsSum, PutsText}
 use Rattle.cache_meaning.specs.SmallUnit.{statements_code, code_behind}
 
 -- a slot for each of some names

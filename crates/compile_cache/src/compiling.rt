@@ -9,7 +9,9 @@ ghost use Rattle.iseq_dump.specs.Dump.{CanBeDumped};
 ghost use Rattle.cache_meaning.specs.Payload.{dump_of};
 ghost use Rattle.cache_meaning.specs.Entry.{numbers_with, entry_with};
 ghost use Rattle.cache_meaning.specs.LeftOut.{PutsAllBut, PutsPart};
-ghost use Rattle.compile_cache.specs.Fetching.{got_of, got_of_found, payload_in, items_with_name, due, PutsNothingOrFits, PutsSource, PutsSourcePart};
+ghost use Rattle.ruby_tree.specs.Read.{tree_of};
+ghost use Rattle.small_form.specs.SmallForm.{small_of};
+ghost use Rattle.compile_cache.specs.Fetching.{got_of, got_of_small, got_of_found, payload_in, items_with_name, due, PutsNothingOrFits, PutsSource, PutsSourcePart};
 
 use crate::Got;
 use crate::shelf::put;
@@ -18,7 +20,10 @@ use bs_outside::{CacheName, NoMemory, Shelf, Stat, Text, Tree, TreeFault};
 use cache_key::{Event, fnv1a, key_of};
 use iseq_dump::dump;
 use iseq_types::Unit;
-use std::alloc::Global;
+use ruby_reader::{ReadError, read_program};
+use ruby_tree::Program;
+use small_form::{SmallFile, small_file};
+use std::alloc::{AllocError, Global};
 
 /// The key of a source with this stat.
 fn key_with(stat: Stat, digest: u64, data_size: u64) -> [u8; 64]
@@ -63,7 +68,7 @@ fn put_unit<S: Shelf>(
             let entry = entry_with(alloc, stat, contents, unit)?;
             put(alloc, shelf, name, &entry)
         }
-        Got::Fault { .. } | Got::Gone => Ok(()),
+        Got::Fault { .. } | Got::NotYet | Got::Gone => Ok(()),
     }
 }
 
@@ -96,9 +101,28 @@ fn put_unless_hit<S: Shelf>(
 pub fn compile(alloc: Global, path: &Text, contents: &[u8]) -> Result<Got, NoMemory>
     ensures { IfOk result (λ got. got ≡ got_of_found path.now (Some contents.now)) }
 {
-    match unit_of(alloc, path, contents)? {
-        Some(unit) => Ok(Got::Whole(unit)),
-        None => Ok(Got::Fault { line: 1 }),
+    match read_program(alloc, contents) {
+        Ok(program) => compile_program(alloc, path, program),
+        Err(ReadError::Syntax(fault)) => Ok(Got::Fault { line: fault.line }),
+        Err(ReadError::NoMemory) => Err(AllocError),
+    }
+}
+
+/// What a program that was read comes to.
+fn compile_program(alloc: Global, path: &Text, program: Program) -> Result<Got, NoMemory>
+    ensures { IfOk result (λ got. got ≡ got_of_small path.now (small_of (tree_of program.symbols program.root))) }
+{
+    let file = small_file(alloc, &program)?;
+    compile_file(alloc, path, file)
+}
+
+/// What a small file comes to, if there is one.
+fn compile_file(alloc: Global, path: &Text, file: Option<SmallFile>) -> Result<Got, NoMemory>
+    ensures { IfOk result (λ got. got ≡ got_of_small path.now file) }
+{
+    match file {
+        Some(file) => Ok(Got::Whole(unit_of(alloc, path, &file)?)),
+        None => Ok(Got::NotYet),
     }
 }
 

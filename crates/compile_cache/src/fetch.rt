@@ -90,7 +90,7 @@ fn fetched_anew(event: Event, got: Got) -> Fetched
 {
     match got {
         Got::Gone => Fetched { event: None, got },
-        Got::Fault { .. } | Got::Whole(_) => Fetched {
+        Got::Fault { .. } | Got::NotYet | Got::Whole(_) => Fetched {
             event: Some(event),
             got,
         },
@@ -110,6 +110,7 @@ fn fetch_cached<T: Tree, S: Shelf, L: Ledger>(
     ensures fetched { IfOk result (λ f. IfSome (T.contents tree.old) (λ m. IsTrusted S.tells m (S.history shelf.old) → IsStatOf m path.now (Some stat.now) → HasFetched m path.now (S.history shelf.old) (S.history shelf.new)
         (S.faults shelf.old) (S.faults shelf.new) (T.reads tree.old) (T.reads tree.new) f.event × (f.got ≡ got_of m path.now))) }
     ensures fault { IfOk result (λ f. IfSome (T.contents tree.old) (λ m. (line : ℕ) → f.got ≡ Got.Fault line → got_of m path.now ≡ Got.Fault line)) }
+    ensures not_yet { IfOk result (λ f. IfSome (T.contents tree.old) (λ m. f.got ≡ Got.NotYet → got_of m path.now ≡ Got.NotYet)) }
     ensures no_hit { IfOk result (λ f. IfSome (T.contents tree.old) (λ m. f.event ≢ Some Event.Hit → f.got ≡ got_of m path.now)) }
     ensures hit { IsTrue S.tells → IfOk result (λ f. IfSome (T.contents tree.old) (λ m. IsStatOf m path.now (Some stat.now) → f.event ≡ Some Event.Hit → HasHit m path.now (S.history shelf.old) (S.history shelf.new)
         (T.reads tree.old) (T.reads tree.new) f.got)) }
@@ -139,8 +140,13 @@ fn fetch_cached<T: Tree, S: Shelf, L: Ledger>(
 }
 
 /// Fetches the unit of the file at the path. Its stat comes first. With the cache, its cache file is loaded next; where that is a hit, the unit is
-/// taken from there. Else the file is read and compiled, and after any event but a hit its entry is published. A fault of the shelf is never
-/// answered: a load that fails is a miss, and what can't be published is left.
+/// taken from there. Else the file is read and compiled, and after any event but a hit its entry is published; a text that has no tree, and one
+/// whose tree is no small file, has no unit and no entry. A fault of the shelf is never answered: a load that fails is a miss, and what can't be
+/// published is left.
+///
+/// # Errors
+///
+/// Where the tree fails, or there is not memory enough.
 pub fn fetch_unit<T: Tree, S: Shelf, L: Ledger>(
     alloc: Global,
     tree: &mut T,
@@ -155,6 +161,7 @@ pub fn fetch_unit<T: Tree, S: Shelf, L: Ledger>(
     ensures hit { IsTrue S.tells → IfOk result (λ f. IfSome (T.contents tree.old) (λ m. f.event ≡ Some Event.Hit → HasHit m path.now (S.history shelf.old) (S.history shelf.new)
         (T.reads tree.old) (T.reads tree.new) f.got)) }
     ensures fault { IfOk result (λ f. IfSome (T.contents tree.old) (λ m. (line : ℕ) → f.got ≡ Got.Fault line → got_of m path.now ≡ Got.Fault line)) }
+    ensures not_yet { IfOk result (λ f. IfSome (T.contents tree.old) (λ m. f.got ≡ Got.NotYet → got_of m path.now ≡ Got.NotYet)) }
     ensures gone { IfOk result (λ f. IfSome (T.contents tree.old) (λ m. f.got ≡ Got.Gone ↔ file_at m path.now ≡ [])) }
     ensures event { IfOk result (λ f. f.event ≡ None ↔ (mode.now.cache ≡ CacheUse.Off) ⊎ (f.got ≡ Got.Gone)) }
 

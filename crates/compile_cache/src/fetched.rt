@@ -7,8 +7,10 @@ use iseq_types::Unit;
 pub enum Got {
     /// The file's unit.
     Whole(Unit),
-    /// The file's text has no unit; this is the line at which the reader refused it.
+    /// The file's text has no tree; this is the line of its fault.
     Fault { line: u64 },
+    /// The file's text has a tree that is no small file, and cannot be compiled yet.
+    NotYet,
     /// No file stands there.
     Gone,
 }

@@ -3,32 +3,20 @@ mod coding;
 mod locals;
 
 ghost use Rattle.std.specs.Prelude.{◌≡◌, IfOk};
-ghost use Rattle.cache_meaning.specs.SmallUnit.{unit_of, unit_of_program, file_sequence};
+ghost use Rattle.cache_meaning.specs.SmallUnit.{unit_of_program, file_sequence};
 
 use bs_outside::{Items, NoMemory, Text};
 use coding::file_code;
 use iseq_types::{IndexRow, SeqKind, Sequence, Unit};
 use locals::locals_of;
-use ruby_reader::{Line, ReadError, read_program};
-use std::alloc::{AllocError, Global};
+use small_form::{Line, SmallFile};
+use std::alloc::Global;
 
-/// The unit of the text of the file at the path, or nothing where it is no small file.
-#[tactic(auto, unfolding(cache_meaning::specs::SmallUnit::unit_of))]
-pub fn unit_of(alloc: Global, path: &Text, text: &[u8]) -> Result<Option<Unit>, NoMemory>
-    ensures { IfOk result (λ found. found ≡ unit_of path.now text.now) }
+/// The unit of the small file at the path.
+pub fn unit_of(alloc: Global, path: &Text, file: &SmallFile) -> Result<Unit, NoMemory>
+    ensures { IfOk result (λ unit. unit ≡ unit_of_program path.now file.now) }
 {
-    match read_program(alloc, text) {
-        Ok(program) => Ok(Some(unit_with(alloc, path, program.lines.as_slice())?)),
-        Err(ReadError::Syntax(_)) => Ok(None),
-        Err(ReadError::NoMemory) => Err(AllocError),
-    }
-}
-
-/// The unit of the file of these lines.
-fn unit_with(alloc: Global, path: &Text, lines: &[Line]) -> Result<Unit, NoMemory>
-    ensures { IfOk result (λ unit. unit ≡ unit_of_program path.now (record { lines = lines.now })) }
-{
-    let body = file_sequence(alloc, lines)?;
+    let body = file_sequence(alloc, file.lines.as_slice())?;
     let mut rows = Items::new(alloc);
     rows.push(IndexRow {
         kind: SeqKind::File,

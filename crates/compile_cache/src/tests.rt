@@ -1,7 +1,7 @@
-//! The dumps of units of small files.
-use crate::small_units::unit_of;
+//! What texts come to, and the dumps of units of small files.
+use crate::Got;
+use crate::compiling::compile;
 use bs_outside::Text;
-use cache_meaning::unit_laws::small_units_are_sound;
 use iseq_dump::dump;
 use std::alloc::{AllocError, Global};
 use std::test::*;
@@ -16,7 +16,10 @@ const EMPTY: [u8; 56] = [
 /// A text with a line of each form.
 const TEXT: &[u8] = b"x = 1\n\nputs x + 2 - x\nputs \"a\"";
 
-/// The dump of the file `/e.rb` of this text.
+/// The same lines with other blanks.
+const SPACED: &[u8] = b"x=1\n\nputs(x+2 -\tx) # a sum\nputs  \"a\"\n";
+
+/// The dump of the file `/e.rb` of these texts.
 const DUMP: &[u8] = &[
     0x59, 0x53, 0x51, 0x01, // the mark
     5, 47, 101, 46, 114, 98, // the path
@@ -45,13 +48,19 @@ const DUMP: &[u8] = &[
     1, 36, // leave
 ];
 
-/// Whether the text has a unit, and it has this dump.
-fn has_dump(alloc: Global, text: &[u8], bytes: &[u8]) -> Result<bool, AllocError> {
-    small_units_are_sound();
+/// What the text of the file `/e.rb` comes to.
+fn compiled(alloc: Global, text: &[u8]) -> Result<Got, AllocError> {
     let path = Text::new(alloc, b"/e.rb")?;
-    match unit_of(alloc, &path, text)? {
-        Some(unit) => Ok(dump(alloc, &unit)?.as_slice() == bytes),
-        None => Ok(false),
+    compile(alloc, &path, text)
+}
+
+/// Whether the text has a unit, and it has this dump.
+#[tactic(auto, using(crate::proofs::Files::dumped))]
+fn has_dump(alloc: Global, text: &[u8], bytes: &[u8]) -> Result<bool, AllocError> {
+    let path = Text::new(alloc, b"/e.rb")?;
+    match compile(alloc, &path, text)? {
+        Got::Whole(unit) => Ok(dump(alloc, &unit)?.as_slice() == bytes),
+        _ => Ok(false),
     }
 }
 
@@ -60,15 +69,48 @@ fn dumps(rt: HostRuntime) -> Result<(), Fail> {
     let alloc = rt.alloc();
     assert!(rt; has_dump(alloc, b"", &EMPTY)?);
     assert!(rt; has_dump(alloc, TEXT, DUMP)?);
+    assert!(rt; has_dump(alloc, SPACED, DUMP)?);
     Ok(())
 }
 
+fn is_not_yet(got: &Got) -> bool {
+    match got {
+        Got::NotYet => true,
+        _ => false,
+    }
+}
+
+/// The line of the fault, or 0 where there is none.
+fn fault_line(got: &Got) -> u64 {
+    match got {
+        Got::Fault { line } => *line,
+        _ => 0,
+    }
+}
+
 #[test]
-fn other_texts(rt: HostRuntime) -> Result<(), Fail> {
+fn texts_without_a_unit(rt: HostRuntime) -> Result<(), Fail> {
     let alloc = rt.alloc();
-    let path = Text::new(alloc, b"/e.rb")?;
-    for text in ["puts x", "x = x", "x=1", "puts"] {
-        assert!(rt; unit_of(alloc, &path, text.as_bytes())?.is_none(), "{text}");
+    for text in [
+        "puts x",
+        "x = x",
+        "puts",
+        "puts -1",
+        "puts 1; puts 2",
+        "def f\nend",
+    ] {
+        assert!(rt; is_not_yet(&compiled(alloc, text.as_bytes())?), "{text}");
+    }
+    for (text, line) in [
+        ("puts 1\nend", 2),
+        ("\nbreak", 2),
+        ("puts 9223372036854775808", 1),
+    ] {
+        assert_eq!(rt;
+            fault_line(&compiled(alloc, text.as_bytes())?),
+            line,
+            "{text}"
+        );
     }
     Ok(())
 }

@@ -5,7 +5,7 @@ use Rattle.ruby_lexer.specs.Pieces.{integer, constant, variable, global, literal
 use Rattle.ruby_tree.specs.Tree.{Goal, Tree, Trees, Other, Pairs}
 use Rattle.ruby_tree.specs.Rules.{Scope, next, Do, is_kind_label, operand_words, statement_words, word, is_mark, begins_arg}
 use Rattle.ruby_tree.specs.Build.{Given}
-use Rattle.ruby_tree.specs.Grammar.{Rel, Rels, Targets, Several, Element, Elements, Pair, PairList, Passed, Items, Literal, Primary, Postfix, Tight, Power, Minus, Chain, Product, Sum, Shift, Intersection, Union, Order, Equality, Conjunction, Disjunction, Range, Conditional, Command, Unset, Arg, CommandOrArg, Test, Expr, Head, Stmt, derives}
+use Rattle.ruby_tree.specs.Grammar.{Rel, Rels, Targets, Several, Element, Elements, Pair, PairList, Passed, Items, Literal, Primary, Postfix, Tight, Power, Minus, Chain, Order, Equality, Disjunction, Range, Conditional, Command, Unset, Arg, CommandOrArg, Test, Expr, Head, Stmt, derives}
 use Rattle.ruby_tree.specs.Grammar as g
 use Rattle.list_reader.specs.Fronts.{is_label, begins_element, begins_pair, begins_item}
 use Rattle.list_reader.proofs.Promises.{FirstOfArgument, FirstOfStatement, Firsts}

@@ -4,7 +4,7 @@ use Rattle.ruby_lexer.specs.Bytes.{Bytes}
 use Rattle.ruby_lexer.specs.Pieces.{Toks, name, constant}
 use Rattle.ruby_tree.specs.Tree.{Goal, Tree, at, assign, to_constant}
 use Rattle.ruby_tree.specs.Rules.{Scope, Do, own, next, front, blank, spot, spot_with, sending_assignments, word, mark_in, is_mark, is_goal, is_kind_constant, goal_by, goal_at, declared, begins_arguments, assigns, sets}
-use Rattle.ruby_tree.specs.Grammar.{Rel, Rels, Postfix, Value, Unset, Arg}
+use Rattle.ruby_tree.specs.Grammar.{Rels, Postfix, Value, Unset, Arg}
 use Rattle.ruby_tree.specs.Grammar as g
 use Rattle.list_reader.specs.Answers.{Answer, taken, fault, deep, ◌>>=◌}
 use Rattle.list_reader.specs.Fronts.{begins_operator}

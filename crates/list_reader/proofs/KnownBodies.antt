@@ -1,12 +1,12 @@
 -- The reader takes what is derived: bodies, blocks, what a call is given, parameters, and the parts of texts.
 use Rattle.std.proofs.Common.{◌≡◌, ℕ, zero, suc, ◌<◌, codes, true, false, not, ◌||◌, Some, refl, ap, arith}
 use Rattle.ruby_lexer.specs.Bytes.{Bytes, same}
-use Rattle.ruby_lexer.specs.Pieces.{Kind, name, keyword, newline, Toks, Parts}
+use Rattle.ruby_lexer.specs.Pieces.{name, keyword, Toks, Parts}
 use Rattle.ruby_lexer.specs.Pieces as token
 use Rattle.ruby_tree.specs.Tree.{Spot, Tree, Other, Pieces, Whens, Rescues, Params}
 use Rattle.ruby_tree.specs.Rules.{Scope, next, front, spot, is_kind_name, is_kind_newline, Do, own, is_mark, is_word, opens_block, begins_params}
 use Rattle.ruby_tree.specs.Build.{Given}
-use Rattle.ruby_tree.specs.Grammar.{Rels, Then, Clauses, Else, Rescued, Body, DoBlock, Block, CallBlock, CommandBlock, CallItems, TextParts, Elses, WhenList, MethodParams, ParameterList, Parameters, Superclass}
+use Rattle.ruby_tree.specs.Grammar.{Rels, Clauses, Else, Rescued, Body, DoBlock, Block, CallBlock, CommandBlock, CallItems, TextParts, Elses, WhenList, MethodParams, ParameterList, Parameters, Superclass}
 use Rattle.ruby_tree.specs.Grammar as g
 use Rattle.ruby_tree.specs.FaultLine.{count_of}
 use Rattle.list_reader.specs.Answers.{taken, ◌>>=◌, ◌>>>◌}

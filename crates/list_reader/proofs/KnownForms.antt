@@ -5,7 +5,7 @@ use Rattle.ruby_lexer.specs.Pieces.{Toks}
 use Rattle.ruby_lexer.specs.Pieces as token
 use Rattle.ruby_tree.specs.Tree.{Tree, at, Whens, Other, Form, Params, while_loop, case_of, case_tests, method, class, module_named, body, no_param}
 use Rattle.ruby_tree.specs.Rules.{Scope, Do, own, loops, within, fresh, spot, next, front, is_kind_constant, word, is_word}
-use Rattle.ruby_tree.specs.Grammar.{Rel, Rels, Then, LoopStart, Newlines, OnSelf, MethodName, Parameters, Superclass, Body, WhenList, Else, Primary}
+use Rattle.ruby_tree.specs.Grammar.{Rels, Then, LoopStart, Newlines, OnSelf, MethodName, Parameters, Superclass, Body, WhenList, Else, Primary}
 use Rattle.ruby_tree.specs.Grammar as g
 use Rattle.ruby_tree.specs.FaultLine.{count_of}
 use Rattle.list_reader.specs.Answers.{taken, ◌>>=◌, ◌>>>◌}

@@ -5,7 +5,7 @@ use Rattle.ruby_lexer.specs.Pieces.{Toks}
 use Rattle.ruby_tree.specs.Tree.{Tree}
 use Rattle.ruby_tree.specs.Rules.{Scope, Do, mark_in, is_mark, is_negative, product_marks, sum_marks, shift_marks, intersection_marks, union_marks, order_marks, equality_marks}
 use Rattle.ruby_tree.specs.Build.{binary, conjunction, disjunction}
-use Rattle.ruby_tree.specs.Grammar.{Rel, Rels, Tight, Power, Minus, Rest, Chain, Product, Sum, Shift, Intersection, Union, Order, Equality, Conjunction, Disjunction, Range, Conditional, Postfix}
+use Rattle.ruby_tree.specs.Grammar.{Rel, Rels, Tight, Power, Minus, Rest, Chain, Product, Sum, Shift, Intersection, Union, Order, Equality, Conjunction, Disjunction, Range, Conditional}
 use Rattle.ruby_tree.specs.Grammar as g
 use Rattle.ruby_tree.specs.FaultLine.{count_of}
 use Rattle.list_reader.specs.Answers.{Answer, taken, fault, deep, Parse, ◌>>=◌}

@@ -6,7 +6,7 @@ use Rattle.ruby_lexer.specs.Pieces as token
 use Rattle.ruby_tree.specs.Tree.{Tree, at, Trees, Pairs, Other, integer, array, hash, send, yield, super, bare_super, no_more, without, with}
 use Rattle.ruby_tree.specs.Rules.{Scope, Do, own, spot, next, front, word, is_mark, is_word, opens, opens_block, begins_arguments, is_command, is_negative}
 use Rattle.ruby_tree.specs.Build.{Given, nothing, has_block}
-use Rattle.ruby_tree.specs.Grammar.{Rel, Rels, Trailing, Elements, PairList, InBrackets, CallBlock, Literal, Primary, Block, DoBlock, WhenList, Else, Newlines}
+use Rattle.ruby_tree.specs.Grammar.{Rels, Trailing, Elements, PairList, InBrackets, CallBlock, Literal, Block, DoBlock}
 use Rattle.ruby_tree.specs.Grammar as g
 use Rattle.ruby_tree.specs.FaultLine.{count_of}
 use Rattle.list_reader.specs.Answers.{taken, ◌>>=◌}

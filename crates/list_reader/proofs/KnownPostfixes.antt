@@ -5,7 +5,7 @@ use Rattle.ruby_lexer.specs.Pieces.{Toks, name, constant}
 use Rattle.ruby_tree.specs.Tree.{Tree, at, Other, send, with}
 use Rattle.ruby_tree.specs.Rules.{Scope, Do, own, next, front, blank, spot_with, is_kind_name, is_kind_constant, word, is_mark, goes_on, begins_arg, begins_arguments, assigns}
 use Rattle.ruby_tree.specs.Build.{Given, call_form, path_with}
-use Rattle.ruby_tree.specs.Grammar.{Rel, Rels, Dot, MethodName, CallItems, Items, Primary, Postfixes, Postfix}
+use Rattle.ruby_tree.specs.Grammar.{Rels, Dot, MethodName, CallItems, Items, Postfixes, Postfix}
 use Rattle.ruby_tree.specs.Grammar as g
 use Rattle.ruby_tree.specs.FaultLine.{count_of}
 use Rattle.list_reader.specs.Answers.{Answer, taken, Parse, ◌>>=◌, ◌>>>◌}

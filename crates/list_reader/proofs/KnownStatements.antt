@@ -6,7 +6,7 @@ use Rattle.ruby_lexer.specs.Pieces.{Toks, name}
 use Rattle.ruby_tree.specs.Tree.{Goal, Tree, at, Trees, more, Other}
 use Rattle.ruby_tree.specs.Rules.{Scope, Do, loops, next, front, spot_with, modifiers, word, word_in, is_word, is_goal, is_kind_name, begins_arguments, begins_statement, begins_targets, is_command, sets}
 use Rattle.ruby_tree.specs.Build.{Given, call_form}
-use Rattle.ruby_tree.specs.Grammar.{Rel, Rels, Targets, Postfix, Dot, MethodName, CommandItems, CommandBlock, Values, Command, Arg, CommandOrArg, Test, Tests, Expr, Head, Modifiers, Stmt, StmtList, Stmts, derives}
+use Rattle.ruby_tree.specs.Grammar.{Rels, Targets, Postfix, Dot, MethodName, CommandItems, CommandBlock, Values, Command, Arg, CommandOrArg, Test, Tests, Expr, Head, Modifiers, Stmt, StmtList, Stmts, derives}
 use Rattle.ruby_tree.specs.Grammar as g
 use Rattle.ruby_tree.specs.FaultLine.{count_of}
 use Rattle.list_reader.specs.Answers.{taken, ◌>>=◌}

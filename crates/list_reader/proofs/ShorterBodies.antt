@@ -5,7 +5,7 @@ use Rattle.ruby_lexer.specs.Pieces.{Toks, Parts}
 use Rattle.ruby_tree.specs.Tree.{Spot, Other, Pieces}
 use Rattle.ruby_tree.specs.Rules.{Scope, Do, own}
 use Rattle.ruby_tree.specs.Build.{Given}
-use Rattle.ruby_tree.specs.Grammar.{Rel, Rels, Clauses, Else, Rescued, Body, DoBlock, Block, CallBlock, CommandBlock, CallItems, TextParts, Elses, WhenList, MethodParams, ParameterList, Parameters, Superclass}
+use Rattle.ruby_tree.specs.Grammar.{Rels, Clauses, Else, Rescued, Body, DoBlock, Block, CallBlock, CommandBlock, CallItems, TextParts, Elses, WhenList, MethodParams, ParameterList, Parameters, Superclass}
 use Rattle.ruby_tree.specs.Grammar as g
 use Rattle.list_reader.proofs.Moves.{Moves, ◌▷◌, least, stays, declares, enters, leaves, inside, aside, at_kind, at_mark, at_word, at_line, Moving, Movers}
 use Rattle.list_reader.proofs.ShorterItems.{moves_then, moves_bars, moves_exception_name, moves_several, moves_in_brackets, moves_classes}

@@ -4,7 +4,7 @@ use Rattle.ruby_lexer.specs.Bytes.{Bytes}
 use Rattle.ruby_lexer.specs.Pieces.{Toks}
 use Rattle.ruby_tree.specs.Tree.{Tree, Trees, Other}
 use Rattle.ruby_tree.specs.Rules.{Scope, Do, own, in_arguments, next, method_marks}
-use Rattle.ruby_tree.specs.Grammar.{Rel, Rels, Trailing, Then, LoopStart, Newlines, Dot, MethodName, BlockParams, Bars, ExceptionName, MoreTargets, Targets, OnSelf, Several, Element, Elements, Pair, PairList, Passed, Items, InBrackets, CommandItems, Classes}
+use Rattle.ruby_tree.specs.Grammar.{Rels, Trailing, Then, LoopStart, Newlines, Dot, MethodName, BlockParams, Bars, ExceptionName, MoreTargets, Targets, OnSelf, Several, Element, Elements, Pair, PairList, Passed, Items, InBrackets, CommandItems, Classes}
 use Rattle.ruby_tree.specs.Grammar as g
 use Rattle.list_reader.proofs.Moves.{Moves, ◌▷◌, least, stays, declares, sets_goal, at_kind, at_mark, at_word, at_one_of, at_line, at_goal, Moving, Movers}
 

@@ -4,7 +4,7 @@ use Rattle.ruby_lexer.specs.Bytes.{Bytes}
 use Rattle.ruby_lexer.specs.Pieces.{Toks}
 use Rattle.ruby_tree.specs.Tree.{Tree}
 use Rattle.ruby_tree.specs.Rules.{Do, own, loops, within}
-use Rattle.ruby_tree.specs.Grammar.{Rel, Rels, Literal, Primary, Postfixes, Postfix}
+use Rattle.ruby_tree.specs.Grammar.{Rels, Literal, Primary, Postfixes, Postfix}
 use Rattle.ruby_tree.specs.Grammar as g
 use Rattle.list_reader.proofs.Moves.{◌▷◌, least, stays, inside, at_kind, at_mark, at_word, at_line, at_negative, Moving, Movers}
 use Rattle.list_reader.proofs.ShorterItems.{moves_trailing, moves_then, moves_loop_start, moves_newlines, moves_dot, moves_method_name, moves_on_self, moves_elements, moves_pair_list, moves_items, moves_in_brackets}

@@ -4,7 +4,7 @@ use Rattle.ruby_lexer.specs.Bytes.{Bytes}
 use Rattle.ruby_lexer.specs.Pieces.{Toks}
 use Rattle.ruby_tree.specs.Tree.{Tree}
 use Rattle.ruby_tree.specs.Rules.{Do, own, loops, sending_assignments}
-use Rattle.ruby_tree.specs.Grammar.{Rel, Rels, Values, Command, Value, Unset, Arg, CommandOrArg, Test, Tests, Expr, Head, Modifiers, Stmt, StmtList, Stmts}
+use Rattle.ruby_tree.specs.Grammar.{Rels, Values, Command, Value, Unset, Arg, CommandOrArg, Test, Tests, Expr, Head, Modifiers, Stmt, StmtList, Stmts}
 use Rattle.ruby_tree.specs.Grammar as g
 use Rattle.list_reader.proofs.Moves.{◌▷◌, least, stays, enters, leaves, sets_goal, at_kind, at_mark, at_word, at_line, at_one_of, at_goal, Moving, Movers}
 use Rattle.list_reader.proofs.ShorterItems.{moves_dot, moves_method_name, moves_targets, moves_several, moves_command_items}

@@ -6,7 +6,7 @@ use Rattle.ruby_lexer.specs.Pieces.{Kind, name, constant, Toks}
 use Rattle.ruby_tree.specs.Tree.{Goal, Tree, at}
 use Rattle.ruby_tree.specs.Rules.{Scope, declared, in_clause, next, front, blank, is_kind_constant, is_goal, spot, spot_with, Do, own, modifiers, sending_assignments, word, mark_in, word_in, is_mark, is_word, begins_arg, begins_value, begins_arguments, is_command, assigns, sets, goal_by, goal_at}
 use Rattle.ruby_tree.specs.Build.{has_block}
-use Rattle.ruby_tree.specs.Grammar.{Rel, Rels, Mark, Word, Postfix, Conditional, Values, Command, Value, Unset, Arg, CommandOrArg}
+use Rattle.ruby_tree.specs.Grammar.{Rels, Mark, Word, Postfix, Conditional, Values, Command, Value, Unset, Arg, CommandOrArg}
 use Rattle.ruby_tree.specs.Grammar as g
 use Rattle.list_reader.specs.Fronts.{is_name, calling_words, leaving_words, begins_command, begins_operator}
 use Rattle.list_reader.specs.ReadItems.{Readers}

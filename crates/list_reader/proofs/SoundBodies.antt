@@ -8,7 +8,7 @@ use Rattle.ruby_tree.specs.Tree.{Spot, Tree, Params}
 use Rattle.ruby_tree.specs.Rules.{Scope, declare, in_clause, outside_clause, behind, next, front, spot, Do, own, command_takes, word, is_mark, is_word, opens, opens_block, opens_do, begins_params}
 use Rattle.ruby_tree.specs.Build.{Given, nothing, has_block}
 use Rattle.ruby_tree.specs.FaultLine.{count_of}
-use Rattle.ruby_tree.specs.Grammar.{Rel, Rels, Mark, Word, Newline, Then, MethodParams}
+use Rattle.ruby_tree.specs.Grammar.{Rel, Rels, Mark, Word, Then, MethodParams}
 use Rattle.ruby_tree.specs.Grammar as g
 use Rattle.list_reader.specs.Answers.{Parse}
 use Rattle.list_reader.specs.Fronts.{is_empty, is_newline, is_name, then_at}

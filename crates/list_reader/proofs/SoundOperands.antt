@@ -9,7 +9,7 @@ use Rattle.ruby_tree.specs.Tree.{Tree, at, Form, Other, without, Whens, send, wh
 use Rattle.ruby_tree.specs.Rules.{Scope, fresh, is_local, next, front, spot, Do, own, loops, within, method_marks, touches_next, word, mark_in, is_mark, is_word, opens, opens_block, begins_arguments, is_command, is_negative}
 use Rattle.ruby_tree.specs.Build.{Given, nothing, has_block}
 use Rattle.ruby_tree.specs.FaultLine.{count_of}
-use Rattle.ruby_tree.specs.Grammar.{Rel, Rels, Mark, Word, Newline, Then, LoopStart, Newlines, MethodName, OnSelf, InBrackets, CallBlock, WhenList, Else, Literal, Primary}
+use Rattle.ruby_tree.specs.Grammar.{Rels, Mark, Word, Then, LoopStart, Newlines, MethodName, OnSelf, InBrackets, CallBlock, WhenList, Else, Literal, Primary}
 use Rattle.ruby_tree.specs.Grammar as g
 use Rattle.list_reader.specs.Fronts.{is_newline, is_name, is_constant, skip_newlines, loop_start_at, brackets_at, method_name_at, on_self_at}
 use Rattle.list_reader.specs.ReadItems.{Readers}

@@ -7,7 +7,7 @@ use Rattle.ruby_tree.specs.Tree.{Tree}
 use Rattle.ruby_tree.specs.Rules.{Scope, next, front, blank, spot_with, Do, own, word, is_mark, goes_on, begins_arguments, begins_arg, assigns}
 use Rattle.ruby_tree.specs.Build.{Given}
 use Rattle.ruby_tree.specs.FaultLine.{count_of}
-use Rattle.ruby_tree.specs.Grammar.{Rel, Rels, Mark, Dot, MethodName, Items, Primary, Postfixes, Postfix}
+use Rattle.ruby_tree.specs.Grammar.{Rel, Rels, Mark, Dot, MethodName, Items, Postfixes, Postfix}
 use Rattle.ruby_tree.specs.Grammar as g
 use Rattle.list_reader.specs.Answers.{Answer, Parse}
 use Rattle.list_reader.specs.Fronts.{is_name, is_constant, is_dot}

@@ -7,7 +7,7 @@ use Rattle.ruby_tree.specs.Tree.{Tree, at, if_else, while_loop, Trees, no_more, 
 use Rattle.ruby_tree.specs.Rules.{Scope, in_clause, behind, next, spot, Do, loops, modifiers, word_in, is_mark, is_word, begins_statement, begins_targets}
 use Rattle.ruby_tree.specs.Build.{is_body, alone, or_empty, rescued, conjunction, disjunction}
 use Rattle.ruby_tree.specs.FaultLine.{count_of}
-use Rattle.ruby_tree.specs.Grammar.{Rel, Rels, Newline, NoNewline, Test, Tests, Expr, Head, Modifiers, Stmt, StmtList, Stmts}
+use Rattle.ruby_tree.specs.Grammar.{Rels, Newline, NoNewline, Test, Tests, Expr, Head, Modifiers, Stmt, StmtList, Stmts}
 use Rattle.ruby_tree.specs.Grammar as g
 use Rattle.list_reader.specs.Fronts.{is_newline}
 use Rattle.list_reader.specs.ReadItems.{Readers}

@@ -1,7 +1,7 @@
 -- More depth changes nothing but what goes too deep: bodies, blocks, what a call is given, parameters, and the parts of texts.
 use Rattle.std.proofs.Common.{ℕ, zero, suc, nat_le, nat_eq, not, ◌&&◌, codes}
 use Rattle.ruby_lexer.specs.Bytes.{Bytes}
-use Rattle.ruby_lexer.specs.Pieces.{Toks, Parts}
+use Rattle.ruby_lexer.specs.Pieces.{Parts}
 use Rattle.ruby_lexer.specs.Pieces as token
 use Rattle.ruby_tree.specs.Tree.{Spot, Params}
 use Rattle.ruby_tree.specs.Rules.{Scope, declare, in_clause, outside_clause, behind, next, spot, Do, own, word, is_mark, is_word, opens, opens_block, opens_do, begins_params}

@@ -1,7 +1,7 @@
 -- What a reader with one token of sight takes: bodies, blocks, what a call is given, parameters, and the parts of texts.
 use Rattle.std.specs.Prelude.{ℕ, zero, suc, nat_le, nat_eq, not, ◌&&◌, codes, if◌then◌else◌}
 use Rattle.ruby_lexer.specs.Bytes.{Bytes}
-use Rattle.ruby_lexer.specs.Pieces.{Toks, none, Parts}
+use Rattle.ruby_lexer.specs.Pieces.{none, Parts}
 use Rattle.ruby_lexer.specs.Pieces as token
 use Rattle.ruby_tree.specs.Tree.{Spot, Tree, at, if_else, rescue, ensure, rescue_sequence, ensure_sequence, body, Other, without, with, Pieces, no_piece, plain_piece, code_piece, Whens, no_when, when, Rescues, no_clause, clause, Params, no_param, required, optional, rest_param, block_param}
 use Rattle.ruby_tree.specs.Rules.{Scope, declare, in_clause, outside_clause, behind, next, spot, Do, own, word, is_mark, is_word, opens, opens_block, opens_do, begins_params}

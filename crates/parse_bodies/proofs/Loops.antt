@@ -1,13 +1,13 @@
 -- What the definitions by recursion make, as turns that gather parts from the first on.
-use Rattle.std.proofs.Common.{◌≡◌, refl, sym, ap, ◌∙◌, ℕ, zero, suc, ◌<◌, arith, Bool, true, false, ◌&&◌, codes, Ok, Err, if◌then◌else◌}
+use Rattle.std.proofs.Common.{◌≡◌, refl, sym, ap, ◌∙◌, ℕ, zero, suc, ◌<◌, arith, false, ◌&&◌, codes, Ok, Err, if◌then◌else◌}
 use Rattle.std.specs.Prelude.{nat_le, nat_eq}
 use Rattle.ruby_lexer.specs.Bytes.{Bytes}
 use Rattle.ruby_lexer.specs.Pieces.{Toks, none, more, tok, newline}
-use Rattle.ruby_tree.specs.Tree.{Tree, Whens, no_when, when, Rescues, no_clause, clause, Params, no_param, required, optional, rest_param, block_param}
+use Rattle.ruby_tree.specs.Tree.{Whens, no_when, when, Rescues, no_clause, clause, Params, no_param, required, optional, rest_param, block_param}
 use Rattle.ruby_tree.specs.Rules.{Scope, Do, next, word, declare, behind, in_clause, is_mark, is_word}
 use Rattle.ruby_tree.specs.FaultLine.{count_of}
 use Rattle.ruby_parts.specs.Subtrees.{HoldsParams, whens_then, rescues_then, params_then}
-use Rattle.list_reader.specs.Answers.{Answer, taken, fault, deep, Parse, ◌>>=◌, ◌>>>◌}
+use Rattle.list_reader.specs.Answers.{Answer, taken, fault, deep, Parse, ◌>>=◌}
 use Rattle.list_reader.specs.Fronts.{is_name, then_at}
 use Rattle.list_reader.specs.ReadItems.{Readers, read_classes, read_several, exception_name}
 use Rattle.list_reader.specs.ReadBodies.{clauses, when_list, method_params, named_param, default_param, left_param}
@@ -15,7 +15,7 @@ use Rattle.parse_state.specs.declared.failures.Failure.{Failure}
 use Rattle.parse_state.specs.declared.standing.Parser.{Parser}
 use Rattle.parse_state.specs.Gives.{Gives, gave, no_syntax, too_deep, no_memory}
 use Rattle.parse_bodies.specs.declared.params.ParamRow.{ParamRow}
-use Rattle.parse_bodies.specs.Parts.{Row, HoldsRow, row_from, required_turn, left_turn, block_turn, default_turn, named_turn, param_turn, clause_turn, when_turn}
+use Rattle.parse_bodies.specs.Parts.{Row, HoldsRow, row_from, left_turn, default_turn, named_turn, param_turn, clause_turn, when_turn}
 use Rattle.parse_bodies.proofs.Passing.{drawn, drawn_found, drawn_if, drawn_taken, drawn_fault, drawn_last, drawn_itself}
 
 -- rows, joined

@@ -1,17 +1,17 @@
 -- How the parts of a text are read, one by one.
-use Rattle.std.proofs.Common.{◌≡◌, refl, sym, ap, ◌∙◌, subst, Bool, true, false, if◌then◌else◌, Result, Ok, Err, ℕ, ◌≤◌, ◌<◌, ◌-◌, List, [], ◌∷◌, length, get_or, take, drop, arith, rules}
+use Rattle.std.proofs.Common.{◌≡◌, refl, sym, ap, ◌∙◌, subst, if◌then◌else◌, Ok, Err, ◌≤◌, ◌<◌, ◌-◌, List, [], ◌∷◌, length, get_or, take, drop, arith, rules}
 use Rattle.std.proofs.lemmas.Grind.{common_steps}
 use Rattle.ruby_lexer.specs.declared.token.Part.{Part, Plain, Code, the_lemmas}
 use Rattle.ruby_lexer.specs.declared.token.Token.{Token}
 use Rattle.ruby_lexer.specs.Bytes.{Bytes}
-use Rattle.ruby_lexer.specs.Pieces.{Toks, none, Parts, ends, seen_part, seen_parts, seen_all}
+use Rattle.ruby_lexer.specs.Pieces.{Toks, Parts, ends, seen_part, seen_parts, seen_all}
 use Rattle.ruby_lexer.specs.Pieces as token
 use Rattle.ruby_tree.specs.Tree.{Tree, Pieces, no_piece, plain_piece, code_piece}
 use Rattle.ruby_tree.specs.Rules.{Scope, own}
 use Rattle.ruby_parts.specs.declared.lists.PieceSubtrees.{PieceSubtrees}
 use Rattle.ruby_parts.specs.declared.Subtree.{Subtree}
 use Rattle.ruby_parts.specs.Subtrees.{Holds, HoldsPieces, pieces_then}
-use Rattle.list_reader.specs.Answers.{Answer, taken, fault, deep, Parse, ◌>>=◌}
+use Rattle.list_reader.specs.Answers.{Answer, taken, fault, Parse, ◌>>=◌}
 use Rattle.list_reader.specs.Fronts.{is_empty}
 use Rattle.list_reader.specs.ReadItems.{Readers}
 use Rattle.list_reader.specs.ReadBodies.{text_parts}

@@ -4,7 +4,7 @@ use Rattle.ruby_lexer.specs.Bytes.{Bytes}
 use Rattle.ruby_lexer.specs.Pieces.{Toks, Parts}
 use Rattle.ruby_tree.specs.Names.{Texts}
 use Rattle.ruby_tree.specs.Tree.{Spot, Tree, at, if_else, rescue, ensure, rescue_sequence, ensure_sequence, Other, with, Pieces, Whens, no_when, when, Rescues, no_clause, clause, Params, no_param, required, optional, rest_param, block_param}
-use Rattle.ruby_tree.specs.Rules.{Scope, declare, in_clause, outside_clause, behind, next, spot, Do, own, word, is_mark, is_word}
+use Rattle.ruby_tree.specs.Rules.{declare, in_clause, outside_clause, behind, next, spot, Do, own, word, is_mark, is_word}
 use Rattle.ruby_tree.specs.Build.{Given}
 use Rattle.ruby_tree.specs.FaultLine.{count_of}
 use Rattle.ruby_parts.specs.Subtrees.{HoldsParams, rescues_then, whens_then, params_then}

@@ -1,5 +1,5 @@
 -- What the definitions by recursion make, as turns that gather parts from the first on.
-use Rattle.std.proofs.Common.{◌≡◌, refl, sym, ap, ap₂, ◌∙◌, ℕ, suc, ◌+◌, Bool, true, false, not, ◌&&◌, List, [], ◌∷◌, ◌++◌, codes, Option, Some, None, if◌then◌else◌, append_assoc, arith}
+use Rattle.std.proofs.Common.{◌≡◌, refl, sym, ap, ap₂, ◌∙◌, ℕ, suc, ◌+◌, Bool, true, false, not, ◌&&◌, List, [], ◌∷◌, ◌++◌, codes, Option, Some, None, if◌then◌else◌, append_assoc}
 use Rattle.ruby_lexer.specs.Bytes.{Bytes}
 use Rattle.ruby_lexer.specs.Pieces.{Toks}
 use Rattle.ruby_tree.specs.Tree.{Goal, Tree, Other, Trees, no_more, more, trees_then, Pairs, no_pair, pair, Params, no_param, required, optional, rest_param, block_param}

@@ -1,5 +1,5 @@
 -- Parts by other names.
-use Rattle.std.proofs.Common.{◌≡◌, sym, ap, ◌∙◌, subst, ◌<◌, Option, Some, None, length, arith}
+use Rattle.std.proofs.Common.{◌≡◌, sym, ◌∙◌, subst, Option, Some, None}
 use Rattle.std.proofs.lemmas.Bool.{ltb-true}
 use Rattle.ruby_tree.specs.declared.names.Name.{Name}
 use Rattle.ruby_parts.specs.declared.Subtree.{Subtree}

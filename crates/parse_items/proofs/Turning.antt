@@ -6,12 +6,12 @@ use Rattle.ruby_lexer.specs.Pieces.{Toks, none, more, seen_all}
 use Rattle.ruby_tree.specs.Names.{Texts}
 use Rattle.ruby_tree.specs.Rules.{Scope, next, is_mark}
 use Rattle.ruby_tree.specs.FaultLine.{count_of}
-use Rattle.list_reader.specs.Answers.{Answer, taken, fault, deep, Parse, ◌>>=◌}
+use Rattle.list_reader.specs.Answers.{Answer, taken, Parse, ◌>>=◌}
 use Rattle.parse_state.specs.declared.failures.Failure.{Failure}
 use Rattle.parse_state.specs.declared.failures.Failure.TheVariants as failure
 use Rattle.parse_state.specs.declared.standing.Parser.{Parser}
 use Rattle.parse_state.specs.Standing.{At, Later, toks_of, scope_of}
-use Rattle.parse_state.specs.Gives.{Gives, gave, no_syntax, too_deep, no_memory, Expects, met, unmet}
+use Rattle.parse_state.specs.Gives.{Gives, gave, no_syntax, too_deep, no_memory, Expects, met}
 use Rattle.parse_state.proofs.Steps.{here, later_same, later_then, from}
 use Rattle.parse_items.specs.Turns.{Turns, goes_on, ends, no_syntax as turn_no_syntax, too_deep as turn_too_deep, no_memory as turn_no_memory}
 

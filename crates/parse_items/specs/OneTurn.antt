@@ -1,5 +1,5 @@
 -- What one turn of a loop takes, behind what was gathered, and what the further turns make of it.
-use Rattle.std.specs.Prelude.{ℕ, suc, Bool, not, ◌&&◌, List, [], ◌∷◌, ◌++◌, codes, if◌then◌else◌}
+use Rattle.std.specs.Prelude.{suc, not, ◌&&◌, List, [], ◌∷◌, ◌++◌, codes, if◌then◌else◌}
 use Rattle.ruby_lexer.specs.Bytes.{Bytes}
 use Rattle.ruby_lexer.specs.Pieces.{Toks}
 use Rattle.ruby_tree.specs.Tree.{Goal, Tree, Trees, trees_then, Pairs, no_pair, pair, Params, no_param, required, rest_param}

@@ -1,5 +1,5 @@
 -- What the levels are, one by one.
-use Rattle.std.proofs.Common.{◌≡◌, refl, sym, ap, ◌∙◌, subst, ℕ, ◌<◌, Bool, true, false, List, [], ◌∷◌, length, Option, Some, None, Result, arith}
+use Rattle.std.proofs.Common.{◌≡◌, refl, sym, ap, ◌∙◌, subst, ◌<◌, true, false, List, [], ◌∷◌, length, Option, Some, Result, arith}
 use Rattle.ruby_lexer.specs.declared.token.Token.{Token}
 use Rattle.ruby_lexer.specs.Bytes.{Bytes}
 use Rattle.ruby_lexer.specs.Pieces.{Toks, none, seen_all}

@@ -1,9 +1,8 @@
 -- Parts by other names, and what a start is as an operand.
-use Rattle.std.proofs.Common.{◌≡◌, refl, sym, ap, subst, Bool, Result, Ok, Err, IsErrAnd, List, [], ◌∷◌, codes}
+use Rattle.std.proofs.Common.{◌≡◌, refl, sym, subst, Bool, Result, Ok, Err, IsErrAnd, codes}
 use Rattle.ruby_lexer.specs.Bytes.{Bytes}
 use Rattle.ruby_lexer.specs.Pieces.{Toks}
 use Rattle.ruby_tree.specs.declared.names.Name.{Name}
-use Rattle.ruby_tree.specs.declared.spots.Spot as declared_spot
 use Rattle.ruby_tree.specs.Names.{Texts}
 use Rattle.ruby_tree.specs.Tree.{Spot, Tree, Trees, Form, at, no_more}
 use Rattle.ruby_tree.specs.Rules.{Scope}

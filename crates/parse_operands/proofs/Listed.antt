@@ -9,7 +9,7 @@ use Rattle.ruby_parts.proofs.GoesOn.{names_later}
 use Rattle.ruby_parts.proofs.Built.{names_pushed}
 use Rattle.list_reader.specs.Answers.{taken}
 use Rattle.parse_state.specs.declared.standing.Parser.{Parser}
-use Rattle.parse_state.specs.Standing.{At, Later, toks_of, scope_of}
+use Rattle.parse_state.specs.Standing.{At, Later}
 use Rattle.parse_state.specs.Gives.{Gives, gave}
 use Rattle.parse_state.proofs.Steps.{here, later_same, later_then}
 

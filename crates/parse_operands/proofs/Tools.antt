@@ -1,5 +1,5 @@
 -- Steps of answers, each with what stays of the parser.
-use Rattle.std.proofs.Common.{◌≡◌, refl, sym, subst, ℕ, ℤ, ◌≤◌, le_refl, List, length, Bool, true, false, if◌then◌else◌, Ok, Err, Result, codes}
+use Rattle.std.proofs.Common.{◌≡◌, refl, subst, ℕ, ℤ, ◌≤◌, le_refl, List, length, Bool, true, false, if◌then◌else◌, Ok, Err, Result, codes}
 use Rattle.ruby_lexer.specs.Bytes.{Bytes}
 use Rattle.ruby_lexer.specs.Pieces.{Toks}
 use Rattle.ruby_tree.specs.Names.{Texts, Extends}
@@ -8,7 +8,7 @@ use Rattle.ruby_tree.specs.Rules.{Scope, next, is_mark}
 use Rattle.ruby_tree.specs.Build.{bare_form}
 use Rattle.ruby_parts.specs.declared.Subtree.{Subtree}
 use Rattle.ruby_parts.specs.Subtrees.{Holds}
-use Rattle.list_reader.specs.Answers.{Answer, taken, fault, deep, Parse, ◌>>=◌, Found, found, missing, ◌>>>◌}
+use Rattle.list_reader.specs.Answers.{Answer, taken, fault, deep, Parse, ◌>>=◌, Found, ◌>>>◌}
 use Rattle.list_reader.specs.ReadItems.{closed}
 use Rattle.parse_state.specs.declared.failures.Failure.{Failure}
 use Rattle.parse_state.specs.declared.standing.Parser.{Parser}

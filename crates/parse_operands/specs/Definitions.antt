@@ -3,7 +3,7 @@ use Rattle.std.specs.Prelude.{if◌then◌else◌}
 use Rattle.ruby_lexer.specs.Bytes.{Bytes}
 use Rattle.ruby_tree.specs.Tree.{Tree, at, class, module_named, body, no_param}
 use Rattle.ruby_tree.specs.Rules.{Do, fresh, within, next, spot, word}
-use Rattle.list_reader.specs.Answers.{taken, fault, Parse, ◌>>=◌}
+use Rattle.list_reader.specs.Answers.{fault, Parse, ◌>>=◌}
 use Rattle.list_reader.specs.Fronts.{is_newline}
 use Rattle.list_reader.specs.ReadItems.{Readers}
 use Rattle.list_reader.specs.ReadBodies.{read_body, ended, read_superclass}

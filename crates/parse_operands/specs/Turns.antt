@@ -1,5 +1,5 @@
 -- What stands behind an operand once.
-use Rattle.std.specs.Prelude.{◌≡◌, Result, Ok, Err}
+use Rattle.std.specs.Prelude.{Result, Ok, Err}
 use Rattle.ruby_lexer.specs.Pieces.{Toks}
 use Rattle.ruby_tree.specs.Tree.{Tree}
 use Rattle.ruby_tree.specs.Rules.{Scope}

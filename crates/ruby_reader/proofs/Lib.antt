@@ -1,5 +1,3 @@
-pub mod Numbers
-pub mod Prefixes
 pub mod Scanning
 pub mod Uncut
 pub mod Sited
@@ -9,3 +7,4 @@ pub mod Tails
 pub mod LinedText
 pub mod Sites
 pub mod ReadingOne
+pub mod Judging

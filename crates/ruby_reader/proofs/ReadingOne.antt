@@ -131,7 +131,7 @@ module _ (source : Bytes) where
   unfolding reading_of
   by_scan x h = ap (reading_with source) (scanned_only source x h)
 
-  by_answer : (ts : Toks) (stop : Option ℕ) (o : Answer Tree) → IsFront source ts stop → read_open source ts ≡ o → reading_of source ≡ answered source ts stop o
+  pub by_answer : (ts : Toks) (stop : Option ℕ) (o : Answer Tree) → IsFront source ts stop → read_open source ts ≡ o → reading_of source ≡ answered source ts stop o
   by_answer ts stop o F e = by_scan (front ts stop) F ∙ ap (answered source ts stop) e
 
   -- all tokens, as a tree that nests at most 200 nodes

@@ -1,5 +1,5 @@
-pub mod SmallFile
-pub mod Faults
 pub mod Scanned
 pub mod HasFault
 pub mod ReadingOf
+pub mod Outcomes
+pub mod Parsing

@@ -1,13 +1,13 @@
-//! Whole files of the small form.
-ghost use Rattle.std.specs.Prelude.{◌≡◌, ◌≤◌, ◌∷◌, [], map, length, cond, Some, None, IfOk, IfErr};
-ghost use Rattle.std.specs.FinMap as finite;
-ghost use Rattle.ruby_reader.specs.SmallFile.{program_of, program_with, lines_read, lines_of};
-ghost use Rattle.ruby_reader.specs.Faults.{IsNoSmallFile};
+//! Texts of whole files.
+ghost use Rattle.std.specs.Prelude.{◌≡◌, IfOk, IfErr};
+ghost use Rattle.ruby_tree.specs.Read.{tree_of};
+ghost use Rattle.ruby_reader.specs.ReadingOf.{tree, reading_of};
+ghost use Rattle.ruby_reader.specs.Outcomes.{IsFaultOf, error_of};
 ghost use Rattle.ruby_reader.specs.declared.reading.ReadError.TheVariants as read_error;
 
-use crate::lines::{line_of, note_name};
-use crate::{BYTE_LIMIT, LINE_LIMIT, Line, Program};
-use bs_outside::{Items, NoMemory, TextMap, cut};
+use crate::parsing::{failed, judged, parse};
+use ruby_lexer::{LexError, read_front};
+use ruby_tree::Program;
 use std::alloc::{AllocError, Global};
 use thiserror::Error;
 
@@ -36,63 +36,45 @@ impl From<AllocError> for ReadError {
     }
 }
 
-/// Reads a file of the small form: at most 65,536 bytes in at most 1,000 lines, each of which is empty or has one of the forms
-/// `NAME = SUM`, `puts SUM` and `puts "TEXT"`. A sum has one to a hundred operands with ` + ` or ` - ` between two; an operand is a
-/// number below 2^63 or a name that an earlier line assigned. The fault of any other text is in line 1.
-pub fn read_program(alloc: Global, text: &[u8]) -> Result<Program, ReadError>
-    ensures program { IfOk result (λ program. program_of text.now ≡ Some program) }
-    ensures fault { IfErr result (IsNoSmallFile text.now) }
-{
-    match program_of(alloc, text)? {
-        Some(program) => Ok(program),
-        None => Err(ReadError::Syntax(SyntaxFault { line: 1 })),
-    }
-}
+impl From<LexError> for ReadError {
+    ghost from_gives = { λ given error. error ≡ error_of given };
 
-fn program_of(alloc: Global, text: &[u8]) -> Result<Option<Program>, NoMemory>
-    ensures { IfOk result (λ program. program ≡ program_of text.now) }
-{
-    if text.len() > BYTE_LIMIT {
-        return Ok(None);
-    }
-    let lines = lines_in(alloc, text)?;
-    if lines.len() > LINE_LIMIT {
-        return Ok(None);
-    }
-    match lines_read(alloc, &lines)? {
-        Some(lines) => Ok(Some(Program { lines })),
-        None => Ok(None),
-    }
-}
-
-/// The lines of the text.
-fn lines_in(alloc: Global, text: &[u8]) -> Result<Vec<&[u8]>, NoMemory>
-    ensures { IfOk result (λ lines. map (λ line. line.now) lines.items ≡ lines_of text.now) }
-{
-    let mut lines = Vec::new(alloc);
-    let mut left = Some(text);
-    while let Some(rest) = left {
-        let (line, behind) = cut(rest, b'\n');
-        if behind.is_some() || !line.is_empty() {
-            lines.push(line)?;
+    fn from(error: LexError) -> Self {
+        match error {
+            LexError::Fault(fault) => ReadError::Syntax(SyntaxFault { line: fault.line }),
+            LexError::NoMemory => ReadError::NoMemory,
         }
-        left = behind;
     }
-    Ok(lines)
 }
 
-/// The lines, where each has the form of one behind those before it.
-fn lines_read(alloc: Global, lines: &[&[u8]]) -> Result<Option<Items<Line>>, NoMemory>
-    ensures { IfOk result (λ read. read ≡ lines_read finite.empty (map (λ line. line.now) lines.now)) }
+/// Reads a text of Ruby: the tree of its statements, of which nothing stands where it may not.
+///
+/// A line `__END__` and what follows it are not read. Lines are counted from 1; the last line is that of the last byte that is read.
+///
+/// # Limits
+///
+/// A text has at most 4,194,304 bytes. A number is at most 2^63 - 1, and code in literals nests at most 200 deep: no token begins at what
+/// is beyond that. At most 200 symbols of the grammar nest in one another, and a tree is at most 200 nodes deep.
+///
+/// # Errors
+///
+/// `ReadError::NoMemory` where there is not memory enough, and else `ReadError::Syntax` with the line of the first of these faults:
+///
+/// - The bytes are no text: line 1 where they are too many, and the line of the first bad byte where they are no UTF-8.
+/// - Symbols of the grammar nest too deep: the last line.
+/// - The tokens are no statements: behind as many whole lines as are statements, and behind the header of a class, a module or a method
+///   if one stands there, and so on, the line of the next token. Where no token is left, it is the line of the place at which no token
+///   begins, or the last line.
+/// - The tree is too deep: the last line.
+/// - A node stands where it may not, as a `break` outside of a loop: the line of its first token. Of several such nodes it is the
+///   first in the text.
+pub fn read_program(alloc: Global, text: &[u8]) -> Result<Program, ReadError>
+    ensures program { IfOk result (λ program. reading_of text.now ≡ tree (tree_of program.symbols program.root)) }
+    ensures fault { IfErr result (IsFaultOf text.now) }
 {
-    let mut names = TextMap::new(alloc);
-    let mut read = Items::new(alloc);
-    for bytes in lines {
-        let Some(line) = line_of(alloc, &names, bytes)? else {
-            return Ok(None);
-        };
-        note_name(alloc, &mut names, &line)?;
-        read.push(line)?;
+    let front = read_front(alloc, text)?;
+    match parse(alloc, text, front.tokens.as_slice()) {
+        Ok(parsed) => judged(alloc, text, &front, parsed),
+        Err(failure) => Err(failed(alloc, text, &front, failure)),
     }
-    Ok(Some(read))
 }

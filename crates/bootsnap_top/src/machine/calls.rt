@@ -1,11 +1,11 @@
 //! The calls that the machine knows.
 ghost use Rattle.std.specs.Prelude.{◌≡◌, ◌==◌, ◌&&◌, cond, length, codes};
 ghost use Rattle.bs_outside.specs.Paths.{same_bytes};
-ghost use Rattle.ruby_reader.specs.SmallFile.{operator_of};
+ghost use Rattle.small_form.specs.SmallForm.{operator_of};
 ghost use Rattle.bootsnap_top.specs.Machine.{call_of, operator_call};
 
 use bs_outside::{Items, Text};
-use ruby_reader::Operator;
+use small_form::Operator;
 
 /// A call that the machine knows, or another.
 #[derive(Clone, Copy)]

@@ -9,7 +9,7 @@ use crate::machine::values::{Machine, Value};
 use crate::pieces::{text_line, value_line};
 use bs_outside::{Bytes, NoMemory};
 use iseq_types::{Instr, Line, Literal};
-use ruby_reader::Operator;
+use small_form::Operator;
 use std::alloc::Global;
 
 /// How a run of code ends.

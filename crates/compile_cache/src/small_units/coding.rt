@@ -1,13 +1,13 @@
 //! Code of small files.
 ghost use Rattle.std.specs.Prelude.{◌≡◌, ◌++◌, ◌∷◌, ◌+◌, [], List, IfOk, OnOk, map, codes};
 ghost use Rattle.cache_meaning.specs.SmallUnit.{operand_code, operator_name, term_code, sum_code, statement_code, at_line, statements_code, numbered};
-ghost use Rattle.ruby_reader.specs.declared.tree.Line.{Line as SourceLine};
+ghost use Rattle.small_form.specs.declared.tree.Line.{Line as SourceLine};
 ghost use Rattle.compile_cache.specs.SmallSlots.{code_from, is_empty};
 
 use super::locals::Locals;
 use bs_outside::{Items, NoMemory, Text};
 use iseq_types::{Instr, Line as CodeLine, Literal};
-use ruby_reader::{Line, Operand, Operator, Sum, Term};
+use small_form::{Line, Operand, Operator, Sum, Term};
 use std::alloc::Global;
 
 /// The code of the file of these lines.

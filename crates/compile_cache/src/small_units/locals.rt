@@ -3,7 +3,7 @@ ghost use Rattle.std.specs.Prelude.{◌≡◌, ◌∷◌, [], IfOk};
 ghost use Rattle.cache_meaning.specs.SmallUnit.{locals_behind, with_name, slot_of};
 
 use bs_outside::{NoMemory, Text, TextMap, Texts};
-use ruby_reader::Line;
+use small_form::Line;
 use std::alloc::Global;
 use std::marker::Model;
 

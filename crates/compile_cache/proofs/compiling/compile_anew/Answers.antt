@@ -1,5 +1,5 @@
 use Rattle.std.proofs.Common.{sym, ◌∙◌}
-use Rattle.compile_cache.proofs.Files.{part_nothing_in, part_source_in, all_but_part, dumped}
+use Rattle.compile_cache.proofs.Files.{part_nothing_in, part_source_in, puts_source_in, all_but_part, dumped}
 use Rattle.compile_cache.proofs.compiling.compile_anew.Goals as goal
 
 pub returns-in_err-contents-clause-part : goal.returns-in_err-contents-clause-part
@@ -17,6 +17,11 @@ pub returns-in_err-put_unless_hit-clause-part : goal.returns-in_err-put_unless_h
 returns-in_err-put_unless_hit-clause-part g c told =
     part_source_in (g.T.Tree.contents c.args.tree.now) c.args.path.now c.args.name.now c.args.event c.args.stat.now c.in_ok-contents.field-0 _ _ _ _ _ c.in_ok-contents.ensures.answer c.in-Some.is c.as_slice-text.ensures c.in_ok-got.ensures
     (c.in_err-put_unless_hit.ensures.err told) (c.put_unless_hit.ensures.fits told)
+
+pub returns-clause-puts : goal.returns-clause-puts
+returns-clause-puts g c told =
+    puts_source_in (g.T.Tree.contents c.args.tree.now) c.args.path.now c.args.name.now c.args.event c.args.stat.now c.in_ok-contents.field-0 _ _ _ _ _ _ _ c.in_ok-contents.ensures.answer c.in-Some.is c.as_slice-text.ensures
+    c.in_ok-got.ensures (c.in_ok-put_unless_hit.ensures.ok told)
 
 pub returns-clause-part : goal.returns-clause-part
 returns-clause-part g c told =

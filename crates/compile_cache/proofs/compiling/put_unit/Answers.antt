@@ -21,3 +21,9 @@ returns-in-Fault-2-clause-ok g c told = none_compiled _ _ c.args.name.now c.args
 
 pub returns-in-Fault-2-clause-fits : goal.returns-in-Fault-2-clause-fits
 returns-in-Fault-2-clause-fits g c told = inl (since-nothing _)
+
+pub returns-in-Fault-3-clause-ok : goal.returns-in-Fault-3-clause-ok
+returns-in-Fault-3-clause-ok g c told = none_compiled _ _ c.args.name.now c.args.stat.now c.args.contents.now _ (no_payload _ c.in-Fault.is)
+
+pub returns-in-Fault-3-clause-fits : goal.returns-in-Fault-3-clause-fits
+returns-in-Fault-3-clause-fits g c told = inl (since-nothing _)

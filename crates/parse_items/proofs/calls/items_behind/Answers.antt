@@ -1,4 +1,4 @@
-use Rattle.std.proofs.Common.{false, refl, suc}
+use Rattle.std.proofs.Common.{false, refl}
 use Rattle.ruby_tree.specs.Build.{nothing}
 use Rattle.ruby_sight.specs.Sights.{do_of}
 use Rattle.parse_state.proofs.Steps.{named, later_same}

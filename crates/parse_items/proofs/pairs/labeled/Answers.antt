@@ -1,8 +1,7 @@
-use Rattle.std.proofs.Common.{sym, ap, ◌∙◌, ◌≡◌, Some, Option, subst}
+use Rattle.std.proofs.Common.{sym, ap, ◌∙◌, Some}
 use Rattle.ruby_lexer.specs.Bytes.{Bytes}
-use Rattle.ruby_lexer.specs.Pieces.{Toks}
 use Rattle.ruby_tree.specs.Rules.{spot}
-use Rattle.ruby_tree.specs.Tree.{Spot, Tree, at, symbol}
+use Rattle.ruby_tree.specs.Tree.{at}
 use Rattle.ruby_sight.specs.Sights.{do_of}
 use Rattle.ruby_parts.proofs.GoesOn.{named_later}
 use Rattle.list_reader.specs.Fronts.{label_at}

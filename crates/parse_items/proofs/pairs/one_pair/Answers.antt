@@ -1,4 +1,3 @@
-use Rattle.std.proofs.Common.{sym, ◌∙◌}
 use Rattle.ruby_parts.proofs.GoesOn.{later}
 use Rattle.list_reader.specs.Fronts.{is_label}
 use Rattle.list_reader.specs.ReadItems.{read_pair}

@@ -1,4 +1,4 @@
-use Rattle.std.proofs.Common.{ap, ◌∙◌, refl}
+use Rattle.std.proofs.Common.{ap, ◌∙◌}
 use Rattle.ruby_lexer.specs.Pieces.{seen_all}
 use Rattle.ruby_tree.specs.Rules.{spot_with}
 use Rattle.ruby_parts.proofs.GoesOn.{named_later}

@@ -1,4 +1,3 @@
-use Rattle.std.proofs.Common.{sym, ◌∙◌}
 use Rattle.ruby_tree.specs.Rules.{begins_arg}
 use Rattle.list_reader.specs.ReadItems.{read_classes}
 use Rattle.parse_state.specs.Gives.{gave}

@@ -1,4 +1,4 @@
-use Rattle.std.proofs.Common.{◌≡◌, sym, ap, ap₂, ◌∙◌, subst, List, [], ◌∷◌, ◌++◌, Option, Some, option_map}
+use Rattle.std.proofs.Common.{sym, ap, ap₂, ◌∙◌, subst, List, [], ◌∷◌, ◌++◌, Option, Some, option_map}
 use Rattle.ruby_lexer.specs.Pieces.{seen_all}
 use Rattle.ruby_tree.specs.Tree.{Goal}
 use Rattle.ruby_tree.specs.Rules.{next, word, declared, goal_at}

@@ -1,4 +1,4 @@
-use Rattle.std.proofs.Common.{◌≡◌, refl, sym, ap, ◌∙◌, ◌<◌, ◌≤◌, ◌-◌, length, Ok, arith}
+use Rattle.std.proofs.Common.{◌≡◌, refl, sym, ap, ◌∙◌, ◌<◌, ◌≤◌, ◌-◌, length, arith}
 use Rattle.ruby_tree.specs.Rules.{spot, mark_in, equality_marks}
 use Rattle.ruby_sight.specs.Sights.{do_of}
 use Rattle.ruby_parts.proofs.GoesOn.{later}

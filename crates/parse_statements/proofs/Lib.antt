@@ -1,0 +1,4 @@
+pub mod Settings
+pub mod Growing
+pub mod StatementLoops
+pub mod Starts

@@ -1,0 +1,18 @@
+-- What stands behind an operand that nothing is assigned to, and a command behind a dot.
+use Rattle.std.specs.Prelude.{Bool, if◌then◌else◌}
+use Rattle.ruby_lexer.specs.Bytes.{Bytes}
+use Rattle.ruby_lexer.specs.Pieces.{Toks}
+use Rattle.ruby_tree.specs.Tree.{Spot, Tree}
+use Rattle.ruby_tree.specs.Rules.{Do}
+use Rattle.list_reader.specs.Answers.{fault, Parse, ◌>>=◌}
+use Rattle.list_reader.specs.ReadItems.{Readers}
+use Rattle.list_reader.specs.ReadLevels.{all_levels, raised, climb}
+use Rattle.list_reader.specs.ReadStatements.{command_by, unassigned}
+
+module _ (source : Bytes) (Q : Readers) where
+  -- the operators behind an operand that begins at o
+  abbrev pub operated : Do → Toks → Tree → Parse Tree
+  operated d o a w s = raised source Q d o a w s >>= λ b p x. climb source Q all_levels d o b p x >>= λ t r z. unassigned source Q t r z
+
+  abbrev pub dotted_command : Do → Bool → Bool → Tree → Spot → Bytes → Parse Tree
+  dotted_command d c k a o m w s = if c then command_by source Q d k a o m w s else fault

@@ -1,0 +1,218 @@
+//! Commands: calls whose arguments need no brackets, and the words that leave.
+ghost use Rattle.ruby_lexer.specs.Bytes.{Bytes};
+ghost use Rattle.ruby_tree.specs.Tree.{Tree};
+ghost use Rattle.ruby_tree.specs.Spots.{spot_of};
+ghost use Rattle.ruby_sight.specs.Sights.{do_of};
+ghost use Rattle.ruby_parts.specs.Subtrees.{IsNamed, Holds, HoldsAll};
+ghost use Rattle.list_reader.specs.ReadStatements.{command_by, read_values, read_command};
+ghost use Rattle.parse_state.specs.Gives.{Reads};
+ghost use Rattle.parse_statements.specs.Commands.{named_command, yield_command, super_command, return_command, break_command, next_command};
+
+use parse_bodies::command_block;
+use parse_items::{GivenParts, command_items, several};
+use parse_state::{Context, Failure, Nested, Parser};
+use ruby_parts::{
+    OtherSubtree, Subtree, Subtrees, break_with, call_form, next_with, return_with, send,
+    super_with, yield_with,
+};
+use ruby_sight::Do;
+use ruby_tree::{Name, Spot};
+
+/// A command that begins with its name or its word.
+///
+/// # Errors
+///
+/// Where the grammar derives none here, where symbols nest too deep, and where there is not memory enough.
+pub fn command<N: Nested>(
+    context: Context<'_>,
+    nested: &N,
+    parser: &mut Parser<'_>,
+    takes: Do,
+) -> Result<Subtree, Failure>
+    requires { N.IsReady nested.now }
+    ensures reads { Reads Holds parser.old parser.new result (read_command context.entry.source.now (N.readers nested.now context.entry.source.now) (do_of takes)) }
+{
+    if parser.sight(context).is_name() {
+        return named_command(context, nested, parser, takes);
+    }
+    if parser.is_word(context, "yield") {
+        return yield_command(context, nested, parser, takes);
+    }
+    if parser.is_word(context, "super") {
+        return super_command(context, nested, parser, takes);
+    }
+    if parser.is_word(context, "return") {
+        return return_command(context, nested, parser, takes);
+    }
+    if parser.is_word(context, "break") {
+        return break_command(context, nested, parser, takes);
+    }
+    next_command(context, nested, parser, takes)
+}
+
+// A name with its items and its block.
+fn named_command<N: Nested>(
+    context: Context<'_>,
+    nested: &N,
+    parser: &mut Parser<'_>,
+    takes: Do,
+) -> Result<Subtree, Failure>
+    requires { N.IsReady nested.now }
+    ensures reads { Reads Holds parser.old parser.new result (named_command context.entry.source.now (N.readers nested.now context.entry.source.now) (do_of takes)) }
+{
+    let here = parser.sight(context).spot();
+    let name = parser.word_name(context)?;
+    parser.bump();
+    let given = command_items(context, nested, parser, takes)?;
+    let has_block = given.has_block();
+    let GivenParts {
+        arguments,
+        spread,
+        value,
+        block,
+    } = given;
+    let block = command_block(context, nested, parser, takes, has_block, block)?;
+    let receiver = OtherSubtree::none();
+    Ok(send(here, receiver, arguments, spread, value, name, false, block))
+}
+
+// `yield` with its items, among which no block stands.
+fn yield_command<N: Nested>(
+    context: Context<'_>,
+    nested: &N,
+    parser: &mut Parser<'_>,
+    takes: Do,
+) -> Result<Subtree, Failure>
+    requires { N.IsReady nested.now }
+    ensures reads { Reads Holds parser.old parser.new result (yield_command context.entry.source.now (N.readers nested.now context.entry.source.now) (do_of takes)) }
+{
+    let here = parser.sight(context).spot();
+    parser.bump();
+    let given = command_items(context, nested, parser, takes)?;
+    if given.has_block() {
+        return Err(Failure::Syntax);
+    }
+    Ok(yield_with(here, given.arguments, given.spread))
+}
+
+// `super` with its items and its block.
+fn super_command<N: Nested>(
+    context: Context<'_>,
+    nested: &N,
+    parser: &mut Parser<'_>,
+    takes: Do,
+) -> Result<Subtree, Failure>
+    requires { N.IsReady nested.now }
+    ensures reads { Reads Holds parser.old parser.new result (super_command context.entry.source.now (N.readers nested.now context.entry.source.now) (do_of takes)) }
+{
+    let here = parser.sight(context).spot();
+    parser.bump();
+    let given = command_items(context, nested, parser, takes)?;
+    let has_block = given.has_block();
+    let GivenParts {
+        arguments,
+        spread,
+        value,
+        block,
+    } = given;
+    let block = command_block(context, nested, parser, takes, has_block, block)?;
+    Ok(super_with(here, arguments, spread, value, block))
+}
+
+// The values that a word which leaves takes along, or none.
+fn values_behind<N: Nested>(
+    context: Context<'_>,
+    nested: &N,
+    parser: &mut Parser<'_>,
+    takes: Do,
+) -> Result<Subtrees, Failure>
+    requires { N.IsReady nested.now }
+    ensures reads { Reads HoldsAll parser.old parser.new result (read_values context.entry.source.now (N.readers nested.now context.entry.source.now) (do_of takes)) }
+{
+    if parser.sight(context).begins_value() {
+        return several(context, nested, parser, takes);
+    }
+    Ok(Subtrees::new(context.alloc))
+}
+
+// `return` with its values.
+fn return_command<N: Nested>(
+    context: Context<'_>,
+    nested: &N,
+    parser: &mut Parser<'_>,
+    takes: Do,
+) -> Result<Subtree, Failure>
+    requires { N.IsReady nested.now }
+    ensures reads { Reads Holds parser.old parser.new result (return_command context.entry.source.now (N.readers nested.now context.entry.source.now) (do_of takes)) }
+{
+    let here = parser.sight(context).spot();
+    parser.bump();
+    let values = values_behind(context, nested, parser, takes)?;
+    Ok(return_with(here, values))
+}
+
+// `break` with its values.
+fn break_command<N: Nested>(
+    context: Context<'_>,
+    nested: &N,
+    parser: &mut Parser<'_>,
+    takes: Do,
+) -> Result<Subtree, Failure>
+    requires { N.IsReady nested.now }
+    ensures reads { Reads Holds parser.old parser.new result (break_command context.entry.source.now (N.readers nested.now context.entry.source.now) (do_of takes)) }
+{
+    let here = parser.sight(context).spot();
+    parser.bump();
+    let values = values_behind(context, nested, parser, takes)?;
+    Ok(break_with(here, values))
+}
+
+// `next` with its values.
+fn next_command<N: Nested>(
+    context: Context<'_>,
+    nested: &N,
+    parser: &mut Parser<'_>,
+    takes: Do,
+) -> Result<Subtree, Failure>
+    requires { N.IsReady nested.now }
+    ensures reads { Reads Holds parser.old parser.new result (next_command context.entry.source.now (N.readers nested.now context.entry.source.now) (do_of takes)) }
+{
+    let here = parser.sight(context).spot();
+    parser.bump();
+    let values = values_behind(context, nested, parser, takes)?;
+    Ok(next_with(here, values))
+}
+
+/// The items and the block of a command that was read up to its name.
+///
+/// # Errors
+///
+/// Where the grammar derives none here, where symbols nest too deep, and where there is not memory enough.
+#[allow(clippy::too_many_arguments)]
+pub fn command_behind<N: Nested>(
+    context: Context<'_>,
+    nested: &N,
+    parser: &mut Parser<'_>,
+    takes: Do,
+    safe: bool,
+    receiver: Subtree,
+    here: Spot,
+    name: Name,
+) -> Result<Subtree, Failure>
+    requires { N.IsReady nested.now }
+    ensures reads { (a : Tree) (m : Bytes) → Holds parser.old.symbols receiver a → IsNamed parser.old.symbols name m → Reads Holds parser.old parser.new result (command_by context.entry.source.now (N.readers nested.now context.entry.source.now) (do_of takes) safe a (spot_of here) m) }
+{
+    let given = command_items(context, nested, parser, takes)?;
+    let has_block = given.has_block();
+    let GivenParts {
+        arguments,
+        spread,
+        value,
+        block,
+    } = given;
+    let block = command_block(context, nested, parser, takes, has_block, block)?;
+    let alloc = context.alloc;
+    Ok(call_form(
+        alloc, here, safe, receiver, arguments, spread, value, name, block,
+    )?)
+}

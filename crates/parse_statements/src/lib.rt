@@ -1,0 +1,18 @@
+//! Assignments, commands, tests, modifiers and statements.
+//!
+//! A function that reads gives what the reader on lists (`list_reader`) takes from where the parser stood, and leaves the parser behind it.
+#![tactic(auto)]
+
+mod arguments;
+mod commands;
+mod logic;
+mod modifiers;
+mod places;
+mod sequences;
+mod several;
+mod values;
+mod variables;
+
+pub use arguments::{argument, whole};
+pub use logic::{expression, test};
+pub use sequences::{statement, statements};

@@ -1,0 +1,139 @@
+//! Tests, and what `and` and `or` join.
+ghost use Rattle.std.specs.Prelude.{◌≡◌, ◌<◌, ◌≤◌, ◌-◌, length, Ok, Some, IfOk};
+ghost use Rattle.ruby_lexer.specs.Pieces.{Toks};
+ghost use Rattle.ruby_tree.specs.Names.{Texts};
+ghost use Rattle.ruby_tree.specs.Tree.{Tree};
+ghost use Rattle.ruby_tree.specs.Rules.{Scope, spot};
+ghost use Rattle.ruby_tree.specs.Spots.{spot_of};
+ghost use Rattle.ruby_sight.specs.Sights.{do_of};
+ghost use Rattle.ruby_parts.specs.Subtrees.{Holds};
+ghost use Rattle.parse_state.specs.Standing.{At};
+ghost use Rattle.parse_state.specs.Gives.{Reads, ReadsWithin};
+ghost use Rattle.list_reader.specs.ReadStatements.{tests, read_test, read_expr};
+ghost use Rattle.parse_statements.specs.Statements.{joining_at, joined_by, one_joining};
+
+use crate::arguments::whole;
+use bs_outside::NoMemory;
+use parse_state::{Context, Failure, Nested, Parser};
+use ruby_parts::{Subtree, conjunction, disjunction, negated};
+use ruby_sight::Do;
+use ruby_tree::Spot;
+use std::alloc::Global;
+
+/// What joins two tests.
+#[derive(Clone, Copy, Debug, PartialEq, Eq, Drop)]
+pub enum Joining {
+    /// `a and b`
+    And,
+    /// `a or b`
+    Or,
+}
+
+/// A test: an argument or a command, or one behind `not`.
+///
+/// # Errors
+///
+/// Where the grammar derives none here, where symbols nest too deep, and where there is not memory enough.
+pub fn test<N: Nested>(
+    context: Context<'_>,
+    nested: &N,
+    parser: &mut Parser<'_>,
+    takes: Do,
+) -> Result<Subtree, Failure>
+    requires { N.IsReady nested.now }
+    ensures reads { Reads Holds parser.old parser.new result (read_test context.entry.source.now (N.readers nested.now context.entry.source.now) (do_of takes)) }
+{
+    if parser.is_word(context, "not") {
+        let here = parser.sight(context).spot();
+        parser.bump();
+        let part = nested.test(context, parser, takes)?;
+        return Ok(negated(context.alloc, here, part)?);
+    }
+    whole(context, nested, parser, takes)
+}
+
+/// Tests that are joined by `and` and `or`.
+///
+/// # Errors
+///
+/// Where the grammar derives none here, where symbols nest too deep, and where there is not memory enough.
+pub fn expression<N: Nested>(
+    context: Context<'_>,
+    nested: &N,
+    parser: &mut Parser<'_>,
+    takes: Do,
+) -> Result<Subtree, Failure>
+    requires { N.IsReady nested.now }
+    ensures reads { Reads Holds parser.old parser.new result (read_expr context.entry.source.now (N.readers nested.now context.entry.source.now) (do_of takes)) }
+{
+    let here = parser.sight(context).spot();
+    let first = test(context, nested, parser, takes)?;
+    joined(context, nested, parser, takes, here, first)
+}
+
+// The tests behind the first ones, which begin at the spot, joined to them from left to right.
+fn joined<N: Nested>(
+    context: Context<'_>,
+    nested: &N,
+    parser: &mut Parser<'_>,
+    takes: Do,
+    here: Spot,
+    mut left: Subtree,
+) -> Result<Subtree, Failure>
+    requires { N.IsReady nested.now }
+    ensures reads { (o : Toks) (a : Tree) → spot_of here ≡ spot o → Holds parser.old.symbols left a → ReadsWithin Holds parser.old parser.new result (λ m. tests context.entry.source.now (N.readers nested.now context.entry.source.now) m (do_of takes) o a) }
+{
+    while let Some(joining) = joining_here(context, parser) {
+        left = one_joining(context, nested, parser, takes, joining, here, left)?;
+    }
+    Ok(left)
+}
+
+// What joins a test that stands behind it.
+fn joining_here(context: Context<'_>, parser: &Parser<'_>) -> Option<Joining>
+    ensures is { (w : Toks) (s : Scope) → At parser.now w s → result ≡ joining_at context.entry.source.now w }
+    ensures some { (joining : Joining) → result ≡ Some joining → 0 < length parser.now.rest.now }
+{
+    if parser.is_word(context, "and") {
+        return Some(Joining::And);
+    }
+    if parser.is_word(context, "or") {
+        return Some(Joining::Or);
+    }
+    None
+}
+
+// The word that stands here, and the test behind it.
+fn one_joining<N: Nested>(
+    context: Context<'_>,
+    nested: &N,
+    parser: &mut Parser<'_>,
+    takes: Do,
+    joining: Joining,
+    here: Spot,
+    left: Subtree,
+) -> Result<Subtree, Failure>
+    requires { N.IsReady nested.now }
+    ensures reads { (o : Toks) (a : Tree) → spot_of here ≡ spot o → Holds parser.old.symbols left a → Reads Holds parser.old parser.new result (one_joining (N.readers nested.now context.entry.source.now) joining (do_of takes) o a) }
+    ensures fewer { (x : Subtree) → result ≡ Ok x → length parser.new.rest.now ≤ length parser.old.rest.now - 1 }
+{
+    parser.bump();
+    let right = nested.test(context, parser, takes)?;
+    Ok(made(context.alloc, joining, here, left, right)?)
+}
+
+// The tree of two tests that are joined. The first one begins at the spot.
+fn made(
+    alloc: Global,
+    joining: Joining,
+    here: Spot,
+    left: Subtree,
+    right: Subtree,
+) -> Result<Subtree, NoMemory>
+    ensures made { (T : Texts) (o v : Toks) (a b : Tree) → spot_of here ≡ spot o → Holds T left a → Holds T right b → IfOk result (λ part. Holds T part (joined_by joining o v a b)) }
+{
+    match joining {
+        Joining::And => conjunction(alloc, here, left, right),
+        Joining::Or => disjunction(alloc, here, left, right),
+    }
+}

@@ -1,0 +1,4 @@
+pub mod Only
+pub mod Groups
+pub mod Nodes
+pub mod Behind
