@@ -22,10 +22,10 @@ use std::alloc::Global;
 pub use tree::{Line, Operand, Operator, SmallFile, Sum, Term};
 
 /// The most lines of a small file.
-const LINE_LIMIT: u64 = 1_000;
+pub const LINE_LIMIT: u64 = 1_000;
 
 /// The most operands of a sum.
-const OPERAND_LIMIT: usize = 100;
+pub const OPERAND_LIMIT: usize = 100;
 
 /// The small file that a program is, or nothing where it is none: statements whose first token, if there is one, is in line 1, each with all its parts in a line of its own, of at most 1,000, of the forms
 /// `NAME = SUM`, `puts SUM` and `puts "TEXT"`. A sum has one to a hundred operands with `+` or `-` between two; an operand is a number below 2^63 or a name that an earlier line assigned.
