@@ -1,0 +1,32 @@
+//! Prints texts of Ruby with what the reader gives for them: a table whose rows are compared as text.
+//!
+//! A line of the input that begins with `"` is a row, a text as a string of Rust. It is printed with its tree, or the line of its fault,
+//! behind it. Each other line is printed as it stands; some say what the rows behind them show (`Form`).
+#![tactic(auto)]
+
+mod escapes;
+mod outline;
+mod pieces;
+mod rows;
+
+use rows::{Form, answer};
+use std::io;
+use std::io::{BufRead, BufReader, BufWriter, Write};
+
+fn main(rt: HostRuntime) -> anyhow::Result<()> {
+    let alloc = rt.alloc();
+    let mut out = BufWriter::new(alloc, io::writer(&rt))?;
+    let mut form = Form::Trees;
+    for line in BufReader::new(alloc, rt.reader())?.lines(alloc) {
+        let line = line?;
+        if line.as_str().starts_with('"') {
+            out.write_all(answer(alloc, form, line.as_str())?.as_slice())?;
+        } else {
+            form = form.behind(line.as_str());
+            out.write_all(line.as_bytes())?;
+        }
+        out.write_all(b"\n")?;
+    }
+    out.flush()?;
+    Ok(())
+}

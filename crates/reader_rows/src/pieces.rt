@@ -1,0 +1,56 @@
+//! Text that is written piece by piece.
+
+use std::alloc::{AllocError, Global};
+use std::fmt::Display;
+
+/// The pieces so far. A piece for which there is not memory enough is left out, and told of at the end: so what writes many of them goes
+/// straight on.
+#[derive(Drop)]
+pub struct Pieces {
+    alloc: Global,
+    bytes: Vec<u8>,
+    is_whole: bool,
+}
+
+impl Pieces {
+    /// No piece yet.
+    pub fn new(alloc: Global) -> Pieces {
+        Pieces {
+            alloc,
+            bytes: Vec::new(alloc),
+            is_whole: true,
+        }
+    }
+
+    /// One piece more, in bytes.
+    pub fn put_bytes(&mut self, piece: &[u8]) {
+        if self.bytes.extend_from_slice(piece).is_err() {
+            self.is_whole = false;
+        }
+    }
+
+    /// One piece more.
+    pub fn put(&mut self, piece: &str) {
+        self.put_bytes(piece.as_bytes());
+    }
+
+    /// A number in decimal digits.
+    pub fn number<N: Display + Drop>(&mut self, number: N) {
+        match number.to_string(self.alloc) {
+            Ok(digits) => self.put(digits.as_str()),
+            Err(_) => self.is_whole = false,
+        }
+    }
+
+    /// All of them.
+    ///
+    /// # Errors
+    ///
+    /// Where there was not memory enough for one.
+    pub fn whole(self) -> Result<Vec<u8>, AllocError> {
+        if !self.is_whole {
+            return Err(AllocError);
+        }
+        Ok(self.bytes)
+    }
+}
