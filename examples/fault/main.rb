@@ -1,0 +1,5 @@
+puts "not printed"
+
+def twice(x)
+  x + x
+
