@@ -2,6 +2,8 @@
 #![tactic(auto)]
 
 pub mod laws;
+#[cfg(test)]
+mod limits_tests;
 mod parsing;
 mod reading;
 #[cfg(test)]
