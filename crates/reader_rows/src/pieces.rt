@@ -38,6 +38,7 @@ impl Pieces {
 
     /// One piece more.
     pub fn put(&mut self, piece: &str)
+        ensures put { self.new.is_whole ≡ true → self.new.bytes.items ≡ self.old.bytes.items ++ piece.now }
         ensures lost { self.new.is_whole ≡ true → self.old.is_whole ≡ true }
     {
         self.put_bytes(piece.as_bytes());
