@@ -2,13 +2,13 @@
 use Rattle.std.proofs.Common.{◌≡◌, ℕ, List, [], Option, Some, None, refl, sym, ap, subst}
 use Rattle.bs_outside.specs.SourceTree.{SourceTree, bytes_at}
 use Rattle.iseq_types.specs.declared.sequences.Unit.{Unit as CompiledUnit}
-use Rattle.ruby_reader.specs.ReadingOf.{Reading, reading_of}
-use Rattle.ruby_reader.specs.ReadingOf as reading
+use Rattle.reference_parser.specs.ReadingOf.{Reading, reading_of}
+use Rattle.reference_parser.specs.ReadingOf as reading
 use Rattle.small_form.specs.SmallForm.{small_of}
 use Rattle.small_form.specs.declared.tree.SmallFile.{SmallFile}
 use Rattle.cache_meaning.specs.SmallUnit.{unit_of}
 use Rattle.compile_cache.specs.Fetching.{got_of_small, got_by, got_of_found, got_of}
-use Rattle.compile_cache.specs.declared.fetched.Got.TheVariants as got
+use Rattle.compile_cache.specs.declared.fetched.FetchResult.TheVariants as got
 use Rattle.compile_cache.proofs.Files.{got_unit}
 use Rattle.bootsnap_top.specs.Answer.{answer_of_program, answer_of_reading, answer_of_file, missing_text, syntax_text}
 use Rattle.bootsnap_top.specs.SmallRun.{Answer}

@@ -12,8 +12,8 @@ use Rattle.iseq_types.specs.declared.instructions.Instr.{Instr}
 use Rattle.iseq_types.specs.declared.instructions.Instr.TheVariants as instr
 use Rattle.iseq_types.specs.declared.sequences.Line.{Line as CodeLine}
 use Rattle.iseq_types.specs.declared.sequences.Unit.{Unit as CompiledUnit}
-use Rattle.ruby_reader.specs.ReadingOf.{Reading, reading_of}
-use Rattle.ruby_reader.specs.ReadingOf as reading
+use Rattle.reference_parser.specs.ReadingOf.{Reading, reading_of}
+use Rattle.reference_parser.specs.ReadingOf as reading
 use Rattle.small_form.specs.SmallForm.{Names, names_after, small_of}
 use Rattle.small_form.specs.declared.tree.Operand.{Operand}
 use Rattle.small_form.specs.declared.tree.Operand.TheVariants as operand

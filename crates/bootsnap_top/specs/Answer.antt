@@ -3,8 +3,8 @@ use Rattle.std.specs.Fmt.{decimal}
 use Rattle.std.specs.FinMap as map
 use Rattle.bs_outside.specs.SourceTree.{SourceTree, bytes_at}
 use Rattle.compile_cache.specs.Fetching.{reads_of}
-use Rattle.ruby_reader.specs.ReadingOf.{Reading, reading_of}
-use Rattle.ruby_reader.specs.ReadingOf as reading
+use Rattle.reference_parser.specs.ReadingOf.{Reading, reading_of}
+use Rattle.reference_parser.specs.ReadingOf as reading
 use Rattle.small_form.specs.SmallForm.{small_of}
 use Rattle.small_form.specs.declared.tree.SmallFile.{SmallFile}
 use Rattle.bootsnap_top.specs.Plan.{plan_of, path_of}

@@ -15,7 +15,7 @@ use crate::machine::run_unit;
 use crate::notes::note_event;
 use crate::{Desk, Ending};
 use bs_outside::{Shelf, Sink, SinkFault, Steps, Text, Tree, TreeFault};
-use compile_cache::{CacheUse, Got, Mode, fetch_unit};
+use compile_cache::{CacheUse, FetchResult, Mode, fetch_unit};
 use std::alloc::Global;
 use std::sync::ledger::Ledger;
 
@@ -87,7 +87,7 @@ fn fetch_noted<T: Tree, S: Shelf, O: Sink, L: Ledger>(
     mode: &Mode,
     instrument: bool,
     steps: &mut Steps<L>,
-) -> Result<Got, Ending>
+) -> Result<FetchResult, Ending>
     ensures got { IfOk result (λ got. IfSome (T.contents tree.old) (λ m. IsTrustedFor mode.now.cache S.tells m (S.history shelf.old) → got ≡ got_of m path.now)) }
     ensures ran { mode.now.cache ≡ CacheUse.On → OnOk result (IfSome (T.contents tree.old) (λ m. IsTrusted S.tells m (S.history shelf.old)
         → IsCachedRun (file_at m path.now) (notes_with instrument) (S.history shelf.old) (S.history shelf.new)
@@ -122,7 +122,13 @@ fn fetch_noted<T: Tree, S: Shelf, O: Sink, L: Ledger>(
 }
 
 /// Runs what a fetch gave, or says that no file stands at the path, or that its text has a syntax error.
-fn run_got<O: Sink>(alloc: Global, out: &mut O, err: &mut O, path: &Text, got: &Got) -> Ending
+fn run_got<O: Sink>(
+    alloc: Global,
+    out: &mut O,
+    err: &mut O,
+    path: &Text,
+    got: &FetchResult,
+) -> Ending
     ensures output { (m : SourceTree) → got.now ≡ got_of m path.now → IfWhole result (O.taken out.new ≡ added (O.taken out.old) (answer_of_file path.now (bytes_at m path.now)).output) }
     ensures errors { (m : SourceTree) → got.now ≡ got_of m path.now → IfWhole result (O.taken err.new ≡ added (O.taken err.old) (answer_of_file path.now (bytes_at m path.now)).errors) }
     ensures ending { (m : SourceTree) → got.now ≡ got_of m path.now → IfWhole result (result ≡ (answer_of_file path.now (bytes_at m path.now)).ending) }
@@ -145,7 +151,7 @@ fn run_or_say<O: Sink>(
     out: &mut O,
     err: &mut O,
     path: &Text,
-    got: &Got,
+    got: &FetchResult,
 ) -> Result<Ending, SinkFault>
     ensures output { (m : SourceTree) → got.now ≡ got_of m path.now → OnOk result (O.taken out.new ≡ added (O.taken out.old) (answer_of_file path.now (bytes_at m path.now)).output) }
     ensures errors { (m : SourceTree) → got.now ≡ got_of m path.now → OnOk result (O.taken err.new ≡ added (O.taken err.old) (answer_of_file path.now (bytes_at m path.now)).errors) }
@@ -158,13 +164,13 @@ fn run_or_say<O: Sink>(
     ensures failed { IsErrOf result SinkFault.Failed → Rose (O.faults out.old) (O.faults out.new) ⊎ Rose (O.faults err.old) (O.faults err.new) }
 {
     match got {
-        Got::Whole(unit) => run_unit(alloc, out, err, path, unit),
-        Got::Fault { line } => {
+        FetchResult::Whole(unit) => run_unit(alloc, out, err, path, unit),
+        FetchResult::Fault { line } => {
             say_syntax(alloc, err, path, *line)?;
             Ok(Ending::Exit(1))
         }
-        Got::NotYet => Ok(Ending::NotYet),
-        Got::Gone => {
+        FetchResult::NotYet => Ok(Ending::NotYet),
+        FetchResult::Gone => {
             say_missing(alloc, err, path)?;
             Ok(Ending::Exit(1))
         }

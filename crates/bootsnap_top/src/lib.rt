@@ -2,22 +2,14 @@
 #![tactic(auto)]
 
 mod arithmetic;
-#[cfg(test)]
-mod cache_tests;
 mod desks;
 mod ending;
 mod errors;
 mod files;
 mod machine;
-#[cfg(test)]
-mod machine_tests;
 mod notes;
 mod pieces;
 mod planning;
-#[cfg(test)]
-mod planning_tests;
-#[cfg(test)]
-mod tests;
 mod top;
 
 pub use desks::Desk;

@@ -6,8 +6,6 @@ mod fnv;
 mod keys;
 pub mod laws;
 mod names;
-#[cfg(test)]
-mod tests;
 
 pub use events::{Event, event_of};
 pub use fnv::fnv1a;

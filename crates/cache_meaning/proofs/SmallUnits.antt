@@ -8,7 +8,7 @@ use Rattle.iseq_types.specs.declared.sequences.Unit.{Unit as CompiledUnit}
 use Rattle.iseq_dump.specs.Dump.{CanBeDumped}
 use Rattle.small_form.specs.declared.tree.Line.{Line}
 use Rattle.small_form.specs.declared.tree.SmallFile.{SmallFile}
-use Rattle.ruby_reader.specs.ReadingOf.{Reading, tree, fault, reading_of}
+use Rattle.reference_parser.specs.ReadingOf.{Reading, tree, fault, reading_of}
 use Rattle.small_form.specs.SmallForm.{small_of}
 use Rattle.cache_meaning.specs.SmallUnit.{file_row, unit_of_program, unit_by, unit_of}
 use Rattle.cache_meaning.proofs.SmallLines.{IsSmallProgram, small_is}

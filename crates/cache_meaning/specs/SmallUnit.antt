@@ -11,7 +11,7 @@ use Rattle.iseq_types.specs.declared.sequences.Line.{Line as CodeLine}
 use Rattle.iseq_types.specs.declared.sequences.Sequence.{Sequence}
 use Rattle.iseq_types.specs.declared.sequences.IndexRow.{IndexRow}
 use Rattle.iseq_types.specs.declared.sequences.Unit.{Unit as CompiledUnit}
-use Rattle.ruby_reader.specs.ReadingOf.{Reading, tree, fault, reading_of}
+use Rattle.reference_parser.specs.ReadingOf.{Reading, tree, fault, reading_of}
 use Rattle.small_form.specs.SmallForm.{small_of}
 use Rattle.small_form.specs.declared.tree.Operand.{Operand}
 use Rattle.small_form.specs.declared.tree.Operand.TheVariants as operand

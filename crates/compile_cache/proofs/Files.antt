@@ -16,8 +16,8 @@ use Rattle.cache_key.specs.Key.{FitsKey, cache_name_of}
 use Rattle.cache_key.specs.declared.events.Event.{Event}
 use Rattle.cache_key.specs.declared.events.Event.TheVariants.{Miss, Hit, Stale, Revalidated}
 use Rattle.iseq_types.specs.declared.sequences.Unit.{Unit as CompiledUnit}
-use Rattle.ruby_reader.specs.ReadingOf.{Reading, reading_of}
-use Rattle.ruby_reader.specs.ReadingOf as reading
+use Rattle.reference_parser.specs.ReadingOf.{Reading, reading_of}
+use Rattle.reference_parser.specs.ReadingOf as reading
 use Rattle.small_form.specs.SmallForm.{small_of}
 use Rattle.small_form.specs.declared.tree.SmallFile.{SmallFile}
 use Rattle.cache_meaning.specs.SmallUnit.{unit_of_program, unit_by, unit_of}
@@ -30,8 +30,8 @@ use Rattle.cache_meaning.proofs.LeftOut.{part-nothing, part-each}
 use Rattle.cache_meaning.proofs.SmallUnits.{dumped_by}
 use Rattle.iseq_dump.specs.Dump.{CanBeDumped}
 use Rattle.compile_cache.specs.Fetching.{got_of_small, got_by, got_of_found, got_of, payload_in, items_with_name, due, IsSource, PutsNothingOrFits, PutsSource, PutsSourcePart}
-use Rattle.compile_cache.specs.declared.fetched.Got.{Got}
-use Rattle.compile_cache.specs.declared.fetched.Got.TheVariants as got
+use Rattle.compile_cache.specs.declared.fetched.FetchResult.{FetchResult}
+use Rattle.compile_cache.specs.declared.fetched.FetchResult.TheVariants as got
 
 pub some_is : {a b : List ℕ} → Some a ≡ Some b → a ≡ b
 some_is is = cc
@@ -101,7 +101,7 @@ same_items v None = refl
 same_items v (Some payload) = refl
 
 -- what is published of what was compiled is what is published of the source
-pub due_is : (tree : SourceTree) (path : List ℕ) (name : CacheName) (event : Event) (stat : Stat) (contents : List ℕ) (g : Got) (v : Version)
+pub due_is : (tree : SourceTree) (path : List ℕ) (name : CacheName) (event : Event) (stat : Stat) (contents : List ℕ) (g : FetchResult) (v : Version)
     → IsSource tree path name stat v → bytes_at tree path ≡ Some contents → g ≡ got_of_found path (Some contents)
     → due name event stat contents g ≡ unless_hit event (items_of Iseq v)
 due_is tree path name event stat contents g v source bytes is =
@@ -124,7 +124,7 @@ all_unless P Miss items all = all
 all_unless P Stale items all = all
 all_unless P Revalidated items all = all
 
-pub items_whole : (tree : SourceTree) (path : List ℕ) (name : CacheName) (event : Event) (stat : Stat) (contents : List ℕ) (g : Got) (v : Version)
+pub items_whole : (tree : SourceTree) (path : List ℕ) (name : CacheName) (event : Event) (stat : Stat) (contents : List ℕ) (g : FetchResult) (v : Version)
     → IsSource tree path name stat v → bytes_at tree path ≡ Some contents → g ≡ got_of_found path (Some contents)
     → (payload : List ℕ) → payload_in g ≡ Some payload → FitsKey (numbers_with stat contents payload) → AllByRecursion (IsWhole tree) (unless_hit event (items_of Iseq v))
 items_whole tree path name event stat contents g v source bytes is payload has fits =
@@ -138,7 +138,7 @@ items_whole tree path name event stat contents g v source bytes is payload has f
 
 -- ---- in the words of the clauses
 
-pub puts_source : (tree : SourceTree) (path : List ℕ) (name : CacheName) (event : Event) (stat : Stat) (contents : List ℕ) (g : Got) (old new : History) (before after : ℕ)
+pub puts_source : (tree : SourceTree) (path : List ℕ) (name : CacheName) (event : Event) (stat : Stat) (contents : List ℕ) (g : FetchResult) (old new : History) (before after : ℕ)
     → bytes_at tree path ≡ Some contents → g ≡ got_of_found path (Some contents) → PutsAllBut old new before after (due name event stat contents g) → PutsSource tree path name stat event old new before after
 puts_source tree path name event stat contents g old new before after bytes is puts v source =
     subst (λ (items : List CacheItem). PutsAllBut old new before after items) (due_is tree path name event stat contents g v source bytes is) puts
@@ -151,7 +151,7 @@ puts_no_source tree path name event stat old new before after none v source = le
 pub part_nothing : (tree : SourceTree) (path : List ℕ) (name : CacheName) (event : Event) (stat : Stat) (h : History) → PutsSourcePart tree path name stat event h h
 part_nothing tree path name event stat h v source = record { put = []; since = since-nothing h; part = part-nothing (unless_hit event (items_of Iseq v)); whole = tt }
 
-pub part_source : (tree : SourceTree) (path : List ℕ) (name : CacheName) (event : Event) (stat : Stat) (contents : List ℕ) (g : Got) (old new : History)
+pub part_source : (tree : SourceTree) (path : List ℕ) (name : CacheName) (event : Event) (stat : Stat) (contents : List ℕ) (g : FetchResult) (old new : History)
     → bytes_at tree path ≡ Some contents → g ≡ got_of_found path (Some contents) → PutsPart old new (due name event stat contents g) → PutsNothingOrFits old new stat contents g
     → PutsSourcePart tree path name stat event old new
 part_source tree path name event stat contents g old new bytes is puts (inl nothing) v source =
@@ -197,14 +197,14 @@ pub part_nothing_in : (o : Option SourceTree) (path : List ℕ) (name : CacheNam
 part_nothing_in None path name event stat h = tt
 part_nothing_in (Some m) path name event stat h = part_nothing m path name event stat h
 
-pub part_source_in : (o : Option SourceTree) (path : List ℕ) (name : CacheName) (event : Event) (stat : Stat) (read : Option (List ℕ)) (contents taken : List ℕ) (g : Got) (old new : History)
+pub part_source_in : (o : Option SourceTree) (path : List ℕ) (name : CacheName) (event : Event) (stat : Stat) (read : Option (List ℕ)) (contents taken : List ℕ) (g : FetchResult) (old new : History)
     → IfSome o (λ m. read ≡ bytes_at m path) → read ≡ Some contents → taken ≡ contents → g ≡ got_of_found path (Some taken) → PutsPart old new (due name event stat taken g) → PutsNothingOrFits old new stat taken g
     → IfSome o (λ m. PutsSourcePart m path name stat event old new)
 part_source_in None path name event stat read contents taken g old new bytes found same is puts fits = tt
 part_source_in (Some m) path name event stat read contents taken g old new bytes found same is puts fits =
     part_source m path name event stat taken g old new (sym bytes ∙ found ∙ ap Some (sym same)) is puts fits
 
-pub puts_source_in : (o : Option SourceTree) (path : List ℕ) (name : CacheName) (event : Event) (stat : Stat) (read : Option (List ℕ)) (contents taken : List ℕ) (g : Got) (old new : History) (before after : ℕ)
+pub puts_source_in : (o : Option SourceTree) (path : List ℕ) (name : CacheName) (event : Event) (stat : Stat) (read : Option (List ℕ)) (contents taken : List ℕ) (g : FetchResult) (old new : History) (before after : ℕ)
     → IfSome o (λ m. read ≡ bytes_at m path) → read ≡ Some contents → taken ≡ contents → g ≡ got_of_found path (Some taken) → PutsAllBut old new before after (due name event stat taken g)
     → IfSome o (λ m. PutsSource m path name stat event old new before after)
 puts_source_in None path name event stat read contents taken g old new before after bytes found same is puts = tt

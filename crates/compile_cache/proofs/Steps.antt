@@ -37,8 +37,8 @@ use Rattle.cache_meaning.proofs.Trust.{trusted_then}
 use Rattle.cache_meaning.proofs.SmallSound.{sound_by}
 use Rattle.cache_meaning.proofs.SmallDumps.{spelled_by}
 use Rattle.compile_cache.specs.Fetching.{got_of_found, got_of, event_with, IsStatOf, Answers, Stands, HasLooked, IsUnitIn, HoldsUnit, HasHit, HasFetched, IsSource, PutsSource, PutsSourcePart}
-use Rattle.compile_cache.specs.declared.fetched.Got.{Got}
-use Rattle.compile_cache.specs.declared.fetched.Got.TheVariants as got
+use Rattle.compile_cache.specs.declared.fetched.FetchResult.{FetchResult}
+use Rattle.compile_cache.specs.declared.fetched.FetchResult.TheVariants as got
 use Rattle.compile_cache.proofs.Files.{AtPath, at_path, some_is, gone_no_file, unit_got}
 
 -- ---- the file of a stat
@@ -215,7 +215,7 @@ fetched_hit tells (Some m) path stat old mid name image event u before after rea
 
 -- ---- after the source was compiled anew
 
-anew : (answered : Option Event) (event : Event) (g : Got) (tree : SourceTree) (path : List ℕ) (v : Version) → file_at tree path ≡ v ∷ [] → g ≡ got_of tree path → answered ≡ event_with event g → answered ≡ Some event
+anew : (answered : Option Event) (event : Event) (g : FetchResult) (tree : SourceTree) (path : List ℕ) (v : Version) → file_at tree path ≡ v ∷ [] → g ≡ got_of tree path → answered ≡ event_with event g → answered ≡ Some event
 anew answered event (got.Whole u) tree path v here is answer = answer
 anew answered event (got.Fault line) tree path v here is answer = answer
 anew answered event got.NotYet tree path v here is answer = answer
@@ -239,7 +239,7 @@ pub none_in : {A : Type 0} (o : Option A) (P : Type 0) → ((a : A) → o ≡ So
 none_in None P not what = what
 none_in (Some a) P not what = absurd (not a refl)
 
-event_says : (event : Event) (g : Got) → event_with event g ≡ Some Hit → event ≡ Hit
+event_says : (event : Event) (g : FetchResult) → event_with event g ≡ Some Hit → event ≡ Hit
 event_says event (got.Whole u) is = cc
 event_says event (got.Fault line) is = cc
 event_says event got.NotYet is = cc
@@ -264,7 +264,7 @@ pub record Before (tells : Bool) (path : List ℕ) (stat : Stat) (old mid : Hist
   pub no_unit : (u : CompiledUnit) → HoldsUnit event image u → ⊥
 
 module _ (tells : Bool) (path : List ℕ) (stat : Stat) (old mid new : History) (name : CacheName) (image : Option (List ℕ)) (event : Event) (b : Before tells path stat old mid name image event) where
-  pub fetched_anew : (o : Option SourceTree) (before between after : ℕ) (reads_before reads_after : Option (List (List ℕ))) (g given : Got) (answered : Option Event) → before ≤ between → between ≤ after → given ≡ g
+  pub fetched_anew : (o : Option SourceTree) (before between after : ℕ) (reads_before reads_after : Option (List (List ℕ))) (g given : FetchResult) (answered : Option Event) → before ≤ between → between ≤ after → given ≡ g
       → IfSome o (λ m. g ≡ got_of m path) → (IsTrue tells → IfSome o (λ m. PutsSource m path name stat event mid new between after)) → reads_after ≡ added reads_before (path ∷ []) → answered ≡ event_with event g
       → IfSome o (λ m. IsTrusted tells m old → IsStatOf m path (Some stat) → HasFetched m path old new before after reads_before reads_after answered × (given ≡ got_of m path))
   fetched_anew None before between after reads_before reads_after g given answered later latest same is puts reads answer = tt
@@ -298,7 +298,7 @@ module _ (tells : Bool) (path : List ℕ) (stat : Stat) (old mid new : History) 
       (subst (AddsPrefix reads_before reads_after) (sym (due_unless event path not)) reads)
 
   -- a hit whose bytes hold no unit
-  pub hit_anew : (o : Option SourceTree) (between after : ℕ) (reads_before reads_after : Option (List (List ℕ))) (g given : Got) (answered : Option Event) → IsTrue tells → given ≡ g
+  pub hit_anew : (o : Option SourceTree) (between after : ℕ) (reads_before reads_after : Option (List (List ℕ))) (g given : FetchResult) (answered : Option Event) → IsTrue tells → given ≡ g
       → IfSome o (λ m. g ≡ got_of m path) → IfSome o (λ m. PutsSource m path name stat event mid new between after) → reads_after ≡ added reads_before (path ∷ []) → answered ≡ event_with event g
       → IfSome o (λ m. IsStatOf m path (Some stat) → answered ≡ Some Hit → HasHit m path old new reads_before reads_after given)
   hit_anew None between after reads_before reads_after g given answered told same is puts reads answer = tt

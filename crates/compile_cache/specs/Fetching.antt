@@ -16,8 +16,8 @@ use Rattle.cache_key.specs.declared.events.Event.{Event}
 use Rattle.cache_key.specs.declared.events.Event.TheVariants.{Hit}
 use Rattle.iseq_dump.specs.Dump.{Spells, HasSoundBodies}
 use Rattle.iseq_types.specs.declared.sequences.Unit.{Unit as CompiledUnit}
-use Rattle.ruby_reader.specs.ReadingOf.{Reading, reading_of}
-use Rattle.ruby_reader.specs.ReadingOf as reading
+use Rattle.reference_parser.specs.ReadingOf.{Reading, reading_of}
+use Rattle.reference_parser.specs.ReadingOf as reading
 use Rattle.small_form.specs.SmallForm.{small_of}
 use Rattle.small_form.specs.declared.tree.SmallFile.{SmallFile}
 use Rattle.cache_meaning.specs.SmallUnit.{unit_of_program}
@@ -26,27 +26,27 @@ use Rattle.cache_meaning.specs.Entry.{Version, stat_of, numbers_with, entry_with
 use Rattle.cache_meaning.specs.Fits.{IsWhole, IsTrusted}
 use Rattle.cache_meaning.specs.LeftOut.{IsPart, PutsAllBut}
 use Rattle.cache_meaning.specs.Visits.{Visit, event_at, reads_at, unless_hit, HasVisited}
-use Rattle.compile_cache.specs.declared.fetched.Got.{Got}
-use Rattle.compile_cache.specs.declared.fetched.Got.TheVariants as got
+use Rattle.compile_cache.specs.declared.fetched.FetchResult.{FetchResult}
+use Rattle.compile_cache.specs.declared.fetched.FetchResult.TheVariants as got
 use Rattle.compile_cache.specs.declared.mode.CacheUse.{CacheUse}
 use Rattle.compile_cache.specs.declared.mode.CacheUse.TheVariants as use_
 
-abbrev pub got_of_small : List ℕ → Option SmallFile → Got
+abbrev pub got_of_small : List ℕ → Option SmallFile → FetchResult
 got_of_small path None = got.NotYet
 got_of_small path (Some file) = got.Whole (unit_of_program path file)
 
 -- what a text comes to by its reading: the line of its fault, or the unit of the small file that its tree is, where it is one
-abbrev pub got_by : List ℕ → Reading → Got
+abbrev pub got_by : List ℕ → Reading → FetchResult
 got_by path (reading.fault line) = got.Fault line
 got_by path (reading.tree t) = got_of_small path (small_of t)
 
-abbrev pub got_of_found : List ℕ → Option (List ℕ) → Got
+abbrev pub got_of_found : List ℕ → Option (List ℕ) → FetchResult
 got_of_found path None = got.Gone
 got_of_found path (Some contents) = got_by path (reading_of contents)
 
 -- What a fetch of the path gives, whatever the cache holds: the unit of the file's text, the line of the fault of a text that has no tree, that the
 -- tree is no small file, or that no file stands there.
-abbrev pub got_of : SourceTree → List ℕ → Got
+abbrev pub got_of : SourceTree → List ℕ → FetchResult
 got_of tree path = got_of_found path (bytes_at tree path)
 
 -- the reads of a fetch without the cache: one, of a file that is there
@@ -54,7 +54,7 @@ abbrev pub reads_of : SourceTree → List ℕ → List (List ℕ)
 reads_of tree path = map (λ (v : Version). v.path) (file_at tree path)
 
 -- the event of what was read, or nothing where no file stood there
-abbrev pub event_with : Event → Got → Option Event
+abbrev pub event_with : Event → FetchResult → Option Event
 event_with event (got.Whole u) = Some event
 event_with event (got.Fault line) = Some event
 event_with event got.NotYet = Some event
@@ -101,20 +101,20 @@ IsUnitIn bytes u = Spells u (drop 64 bytes) × HasSoundBodies u
 abbrev pub HoldsUnit : Event → Option (List ℕ) → CompiledUnit → Type 0
 HoldsUnit event image u = (event ≡ Hit) × (bytes : List ℕ) × (image ≡ Some bytes) × IsUnitIn bytes u
 
-abbrev pub TakenOrRead : SourceTree → List ℕ → List ℕ → Option (List (List ℕ)) → Option (List (List ℕ)) → Got → Type 0
+abbrev pub TakenOrRead : SourceTree → List ℕ → List ℕ → Option (List (List ℕ)) → Option (List (List ℕ)) → FetchResult → Type 0
 TakenOrRead tree path bytes before after g =
     ((u : CompiledUnit) × IsUnitIn bytes u × (g ≡ got.Whole u) × (after ≡ before))
     ⊎ (((u : CompiledUnit) → IsUnitIn bytes u → ⊥) × (g ≡ got_of tree path) × (after ≡ added before (path ∷ [])))
 
 -- A fetch whose event is a hit, whatever is trusted: the unit that the found bytes hold; or, where they hold none, that of the source, which is then
 -- read. Nothing is put.
-pub record HasHit (tree : SourceTree) (path : List ℕ) (old new : History) (reads_before reads_after : Option (List (List ℕ))) (got : Got) : Type 0 where
+pub record HasHit (tree : SourceTree) (path : List ℕ) (old new : History) (reads_before reads_after : Option (List (List ℕ))) (got : FetchResult) : Type 0 where
   pub bytes : List ℕ
   pub since : Since old new [] ((cache_name_of Iseq path, loaded.Found bytes) ∷ [])
   pub taken : TakenOrRead tree path bytes reads_before reads_after got
 
 -- the payload of what was compiled
-abbrev pub payload_in : Got → Option (List ℕ)
+abbrev pub payload_in : FetchResult → Option (List ℕ)
 payload_in (got.Whole u) = Some (dump_of u)
 payload_in (got.Fault line) = None
 payload_in got.NotYet = None
@@ -125,11 +125,11 @@ items_with_name name stat contents None = []
 items_with_name name stat contents (Some payload) = (name, entry_with stat contents payload) ∷ []
 
 -- what is to be put of a source with this stat and these contents
-abbrev pub due : CacheName → Event → Stat → List ℕ → Got → List CacheItem
+abbrev pub due : CacheName → Event → Stat → List ℕ → FetchResult → List CacheItem
 due name event stat contents g = unless_hit event (items_with_name name stat contents (payload_in g))
 
 -- Nothing was put, or the numbers of the entry have 64 bits.
-abbrev pub PutsNothingOrFits : History → History → Stat → List ℕ → Got → Type 0
+abbrev pub PutsNothingOrFits : History → History → Stat → List ℕ → FetchResult → Type 0
 PutsNothingOrFits old new stat contents g = Since old new [] [] ⊎ ((payload : List ℕ) × (payload_in g ≡ Some payload) × FitsKey (numbers_with stat contents payload))
 
 -- Some of these items were put, and each that was put is whole.

@@ -13,7 +13,7 @@ ghost use Rattle.ruby_tree.specs.Read.{tree_of};
 ghost use Rattle.small_form.specs.SmallForm.{small_of};
 ghost use Rattle.compile_cache.specs.Fetching.{got_of, got_of_small, got_of_found, payload_in, items_with_name, due, PutsNothingOrFits, PutsSource, PutsSourcePart};
 
-use crate::Got;
+use crate::FetchResult;
 use crate::shelf::put;
 use crate::small_units::unit_of;
 use bs_outside::{CacheName, NoMemory, Shelf, Stat, Text, Tree, TreeFault};
@@ -54,9 +54,9 @@ fn put_unit<S: Shelf>(
     name: &CacheName,
     stat: &Stat,
     contents: &[u8],
-    got: &Got,
+    got: &FetchResult,
 ) -> Result<(), NoMemory>
-    requires { (u : CompiledUnit) → got.now ≡ Got.Whole u → CanBeDumped u }
+    requires { (u : CompiledUnit) → got.now ≡ FetchResult.Whole u → CanBeDumped u }
     ensures ok { IsTrue S.tells → OnOk result (PutsAllBut (S.history shelf.old) (S.history shelf.new) (S.faults shelf.old) (S.faults shelf.new)
         (items_with_name name.now stat.now contents.now (payload_in got.now))) }
     ensures err { IsTrue S.tells → OnErr result (PutsPart (S.history shelf.old) (S.history shelf.new) (items_with_name name.now stat.now contents.now (payload_in got.now))) }
@@ -64,11 +64,11 @@ fn put_unit<S: Shelf>(
     ensures faults { S.faults shelf.old ≤ S.faults shelf.new }
 {
     match got {
-        Got::Whole(unit) => {
+        FetchResult::Whole(unit) => {
             let entry = entry_with(alloc, stat, contents, unit)?;
             put(alloc, shelf, name, &entry)
         }
-        Got::Fault { .. } | Got::NotYet | Got::Gone => Ok(()),
+        FetchResult::Fault { .. } | FetchResult::NotYet | FetchResult::Gone => Ok(()),
     }
 }
 
@@ -80,9 +80,9 @@ fn put_unless_hit<S: Shelf>(
     event: Event,
     stat: &Stat,
     contents: &[u8],
-    got: &Got,
+    got: &FetchResult,
 ) -> Result<(), NoMemory>
-    requires { (u : CompiledUnit) → got.now ≡ Got.Whole u → CanBeDumped u }
+    requires { (u : CompiledUnit) → got.now ≡ FetchResult.Whole u → CanBeDumped u }
     ensures ok { IsTrue S.tells → OnOk result (PutsAllBut (S.history shelf.old) (S.history shelf.new) (S.faults shelf.old) (S.faults shelf.new)
         (due name.now event stat.now contents.now got.now)) }
     ensures err { IsTrue S.tells → OnErr result (PutsPart (S.history shelf.old) (S.history shelf.new) (due name.now event stat.now contents.now got.now)) }
@@ -98,18 +98,18 @@ fn put_unless_hit<S: Shelf>(
 }
 
 /// What these contents of the file at the path come to.
-pub fn compile(alloc: Global, path: &Text, contents: &[u8]) -> Result<Got, NoMemory>
+pub fn compile(alloc: Global, path: &Text, contents: &[u8]) -> Result<FetchResult, NoMemory>
     ensures { IfOk result (λ got. got ≡ got_of_found path.now (Some contents.now)) }
 {
     match read_program(alloc, contents) {
         Ok(program) => compile_program(alloc, path, program),
-        Err(ReadError::Syntax(fault)) => Ok(Got::Fault { line: fault.line }),
+        Err(ReadError::Syntax(fault)) => Ok(FetchResult::Fault { line: fault.line }),
         Err(ReadError::NoMemory) => Err(AllocError),
     }
 }
 
 /// What a program that was read comes to.
-fn compile_program(alloc: Global, path: &Text, program: Program) -> Result<Got, NoMemory>
+fn compile_program(alloc: Global, path: &Text, program: Program) -> Result<FetchResult, NoMemory>
     ensures { IfOk result (λ got. got ≡ got_of_small path.now (small_of (tree_of program.symbols program.root))) }
 {
     let file = small_file(alloc, &program)?;
@@ -117,12 +117,16 @@ fn compile_program(alloc: Global, path: &Text, program: Program) -> Result<Got, 
 }
 
 /// What a small file comes to, if there is one.
-fn compile_file(alloc: Global, path: &Text, file: Option<SmallFile>) -> Result<Got, NoMemory>
+fn compile_file(
+    alloc: Global,
+    path: &Text,
+    file: Option<SmallFile>,
+) -> Result<FetchResult, NoMemory>
     ensures { IfOk result (λ got. got ≡ got_of_small path.now file) }
 {
     match file {
-        Some(file) => Ok(Got::Whole(unit_of(alloc, path, &file)?)),
-        None => Ok(Got::NotYet),
+        Some(file) => Ok(FetchResult::Whole(unit_of(alloc, path, &file)?)),
+        None => Ok(FetchResult::NotYet),
     }
 }
 
@@ -135,7 +139,7 @@ pub fn compile_anew<T: Tree, S: Shelf>(
     name: &CacheName,
     stat: &Stat,
     event: Event,
-) -> Result<Got, TreeFault>
+) -> Result<FetchResult, TreeFault>
     ensures got { IfOk result (λ got. IfSome (T.contents tree.old) (λ m. got ≡ got_of m path.now)) }
     ensures puts { IsTrue S.tells → OnOk result (IfSome (T.contents tree.old) (λ m. PutsSource m path.now name.now stat.now event
         (S.history shelf.old) (S.history shelf.new) (S.faults shelf.old) (S.faults shelf.new))) }
@@ -150,7 +154,7 @@ pub fn compile_anew<T: Tree, S: Shelf>(
     ensures shelf_faults { S.faults shelf.old ≤ S.faults shelf.new }
 {
     let Some(contents) = tree.read(alloc, path)? else {
-        return Ok(Got::Gone);
+        return Ok(FetchResult::Gone);
     };
     let text = contents.as_slice();
     let got = compile(alloc, path, text)?;

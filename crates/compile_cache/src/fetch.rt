@@ -11,7 +11,7 @@ ghost use Rattle.compile_cache.specs.Fetching.{got_of, IsTrustedFor, IsStatOf, H
 
 use crate::compiling::{compile, compile_anew};
 use crate::shelf::look;
-use crate::{CacheUse, Fetched, Got, Mode};
+use crate::{CacheUse, FetchResult, Fetched, Mode};
 use bs_outside::{CacheKind, Image, Kind, NoMemory, Shelf, Stat, Steps, Text, Tree, TreeFault};
 use cache_key::{Event, cache_name, event_of};
 use iseq_dump::load_all;
@@ -78,19 +78,19 @@ fn fetch_plainly<T: Tree>(alloc: Global, tree: &mut T, path: &Text) -> Result<Fe
 {
     let got = match tree.read(alloc, path)? {
         Some(contents) => compile(alloc, path, contents.as_slice())?,
-        None => Got::Gone,
+        None => FetchResult::Gone,
     };
     Ok(Fetched { event: None, got })
 }
 
 /// What a load came to, unless the file was gone when it was read.
-fn fetched_anew(event: Event, got: Got) -> Fetched
+fn fetched_anew(event: Event, got: FetchResult) -> Fetched
     ensures got { result.got ≡ got }
     ensures event { result.event ≡ event_with event got }
 {
     match got {
-        Got::Gone => Fetched { event: None, got },
-        Got::Fault { .. } | Got::NotYet | Got::Whole(_) => Fetched {
+        FetchResult::Gone => Fetched { event: None, got },
+        FetchResult::Fault { .. } | FetchResult::NotYet | FetchResult::Whole(_) => Fetched {
             event: Some(event),
             got,
         },
@@ -109,13 +109,13 @@ fn fetch_cached<T: Tree, S: Shelf, L: Ledger>(
 ) -> Result<Fetched, TreeFault>
     ensures fetched { IfOk result (λ f. IfSome (T.contents tree.old) (λ m. IsTrusted S.tells m (S.history shelf.old) → IsStatOf m path.now (Some stat.now) → HasFetched m path.now (S.history shelf.old) (S.history shelf.new)
         (S.faults shelf.old) (S.faults shelf.new) (T.reads tree.old) (T.reads tree.new) f.event × (f.got ≡ got_of m path.now))) }
-    ensures fault { IfOk result (λ f. IfSome (T.contents tree.old) (λ m. (line : ℕ) → f.got ≡ Got.Fault line → got_of m path.now ≡ Got.Fault line)) }
-    ensures not_yet { IfOk result (λ f. IfSome (T.contents tree.old) (λ m. f.got ≡ Got.NotYet → got_of m path.now ≡ Got.NotYet)) }
+    ensures fault { IfOk result (λ f. IfSome (T.contents tree.old) (λ m. (line : ℕ) → f.got ≡ FetchResult.Fault line → got_of m path.now ≡ FetchResult.Fault line)) }
+    ensures not_yet { IfOk result (λ f. IfSome (T.contents tree.old) (λ m. f.got ≡ FetchResult.NotYet → got_of m path.now ≡ FetchResult.NotYet)) }
     ensures no_hit { IfOk result (λ f. IfSome (T.contents tree.old) (λ m. f.event ≢ Some Event.Hit → f.got ≡ got_of m path.now)) }
     ensures hit { IsTrue S.tells → IfOk result (λ f. IfSome (T.contents tree.old) (λ m. IsStatOf m path.now (Some stat.now) → f.event ≡ Some Event.Hit → HasHit m path.now (S.history shelf.old) (S.history shelf.new)
         (T.reads tree.old) (T.reads tree.new) f.got)) }
-    ensures gone { IfOk result (λ f. IfSome (T.contents tree.old) (λ m. f.got ≡ Got.Gone → got_of m path.now ≡ Got.Gone)) }
-    ensures event { IfOk result (λ f. f.event ≡ None ↔ f.got ≡ Got.Gone) }
+    ensures gone { IfOk result (λ f. IfSome (T.contents tree.old) (λ m. f.got ≡ FetchResult.Gone → got_of m path.now ≡ FetchResult.Gone)) }
+    ensures event { IfOk result (λ f. f.event ≡ None ↔ f.got ≡ FetchResult.Gone) }
     ensures begun { OnErr result (IfSome (T.contents tree.old) (λ m. IsTrusted S.tells m (S.history shelf.old) → IsStatOf m path.now (Some stat.now) → HasBegun (file_at m path.now) (S.history shelf.old) (S.history shelf.new) (T.reads tree.old) (T.reads tree.new))) }
     ensures whole { IfSome (T.contents tree.old) (λ m. IsTrusted S.tells m (S.history shelf.old) → IsStatOf m path.now (Some stat.now) → LeavesWhole m (S.history shelf.old) (S.history shelf.new)) }
     ensures contents { T.contents tree.new ≡ T.contents tree.old }
@@ -132,7 +132,7 @@ fn fetch_cached<T: Tree, S: Shelf, L: Ledger>(
     if let Some(unit) = unit_in(alloc, event, &image, steps)? {
         return Ok(Fetched {
             event: Some(event),
-            got: Got::Whole(unit),
+            got: FetchResult::Whole(unit),
         });
     }
     let got = compile_anew(alloc, tree, shelf, path, &name, stat, event)?;
@@ -160,10 +160,10 @@ pub fn fetch_unit<T: Tree, S: Shelf, L: Ledger>(
     ensures no_hit { IfOk result (λ f. IfSome (T.contents tree.old) (λ m. f.event ≢ Some Event.Hit → f.got ≡ got_of m path.now)) }
     ensures hit { IsTrue S.tells → IfOk result (λ f. IfSome (T.contents tree.old) (λ m. f.event ≡ Some Event.Hit → HasHit m path.now (S.history shelf.old) (S.history shelf.new)
         (T.reads tree.old) (T.reads tree.new) f.got)) }
-    ensures fault { IfOk result (λ f. IfSome (T.contents tree.old) (λ m. (line : ℕ) → f.got ≡ Got.Fault line → got_of m path.now ≡ Got.Fault line)) }
-    ensures not_yet { IfOk result (λ f. IfSome (T.contents tree.old) (λ m. f.got ≡ Got.NotYet → got_of m path.now ≡ Got.NotYet)) }
-    ensures gone { IfOk result (λ f. IfSome (T.contents tree.old) (λ m. f.got ≡ Got.Gone ↔ file_at m path.now ≡ [])) }
-    ensures event { IfOk result (λ f. f.event ≡ None ↔ (mode.now.cache ≡ CacheUse.Off) ⊎ (f.got ≡ Got.Gone)) }
+    ensures fault { IfOk result (λ f. IfSome (T.contents tree.old) (λ m. (line : ℕ) → f.got ≡ FetchResult.Fault line → got_of m path.now ≡ FetchResult.Fault line)) }
+    ensures not_yet { IfOk result (λ f. IfSome (T.contents tree.old) (λ m. f.got ≡ FetchResult.NotYet → got_of m path.now ≡ FetchResult.NotYet)) }
+    ensures gone { IfOk result (λ f. IfSome (T.contents tree.old) (λ m. f.got ≡ FetchResult.Gone ↔ file_at m path.now ≡ [])) }
+    ensures event { IfOk result (λ f. f.event ≡ None ↔ (mode.now.cache ≡ CacheUse.Off) ⊎ (f.got ≡ FetchResult.Gone)) }
 
     // With the cache: one load of the file that is there, its event, its read where it was no hit, and then its item.
     ensures fetched { mode.now.cache ≡ CacheUse.On → IfOk result (λ f. IfSome (T.contents tree.old) (λ m. IsTrusted S.tells m (S.history shelf.old) → HasFetched m path.now (S.history shelf.old) (S.history shelf.new)
@@ -189,7 +189,7 @@ pub fn fetch_unit<T: Tree, S: Shelf, L: Ledger>(
     let Some(stat) = file_stat(alloc, tree, path)? else {
         return Ok(Fetched {
             event: None,
-            got: Got::Gone,
+            got: FetchResult::Gone,
         });
     };
     match mode.cache {

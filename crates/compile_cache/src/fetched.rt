@@ -4,7 +4,7 @@ use iseq_types::Unit;
 
 /// What a fetch gives of a path.
 #[derive(Drop)]
-pub enum Got {
+pub enum FetchResult {
     /// The file's unit.
     Whole(Unit),
     /// The file's text has no tree; this is the line of its fault.
@@ -19,5 +19,5 @@ pub enum Got {
 #[derive(Drop)]
 pub struct Fetched {
     pub event: Option<Event>,
-    pub got: Got,
+    pub got: FetchResult,
 }

@@ -7,9 +7,7 @@ mod fetched;
 mod mode;
 mod shelf;
 mod small_units;
-#[cfg(test)]
-mod tests;
 
 pub use fetch::fetch_unit;
-pub use fetched::{Fetched, Got};
+pub use fetched::{FetchResult, Fetched};
 pub use mode::{CacheUse, Mode};

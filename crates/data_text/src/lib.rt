@@ -9,8 +9,6 @@ mod numbers;
 mod pairs;
 mod reading;
 mod strings;
-#[cfg(test)]
-mod tests;
 mod units;
 mod values;
 

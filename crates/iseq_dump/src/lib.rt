@@ -18,6 +18,3 @@ mod text;
 pub use dumping::dump;
 pub use head::{Entry, Head};
 pub use loading::{load_all, read_body, read_head};
-
-#[cfg(test)]
-mod tests;

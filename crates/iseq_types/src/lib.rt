@@ -10,8 +10,6 @@ mod operands;
 mod sequences;
 mod shape;
 mod spans;
-#[cfg(test)]
-mod tests;
 mod throws;
 
 pub use catch::find_catch;

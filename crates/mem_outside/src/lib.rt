@@ -5,8 +5,6 @@ mod files;
 mod inputs;
 mod shelves;
 mod sinks;
-#[cfg(test)]
-mod tests;
 mod trees;
 mod unread;
 

@@ -7,8 +7,6 @@ pub mod laws;
 mod lists;
 mod script;
 mod shelves;
-#[cfg(test)]
-mod tests;
 
 pub use script::Script;
 pub use shelves::{MemShelf, SureShelf};

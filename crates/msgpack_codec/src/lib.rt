@@ -12,8 +12,6 @@ mod live;
 mod number;
 mod reader;
 mod stop;
-#[cfg(test)]
-mod tests;
 mod used;
 mod value;
 

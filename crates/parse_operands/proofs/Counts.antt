@@ -5,7 +5,7 @@ use Rattle.ruby_lexer.specs.Bytes.{Bytes}
 use Rattle.ruby_lexer.specs.Pieces.{Toks, none, more, seen_all}
 use Rattle.ruby_tree.specs.Rules.{Scope, next, is_mark}
 use Rattle.ruby_tree.specs.FaultLine.{count_of}
-use Rattle.list_reader.specs.Fronts.{is_dot}
+use Rattle.reference_parser.specs.Fronts.{is_dot}
 use Rattle.parse_state.specs.declared.standing.Parser.{Parser}
 use Rattle.parse_state.specs.Standing.{At, Later, toks_of}
 

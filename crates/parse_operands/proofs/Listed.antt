@@ -4,10 +4,10 @@ use Rattle.ruby_lexer.specs.Bytes.{Bytes}
 use Rattle.ruby_lexer.specs.Pieces.{Toks}
 use Rattle.ruby_tree.specs.declared.names.Name.{Name}
 use Rattle.ruby_tree.specs.Rules.{Scope}
-use Rattle.ruby_parts.specs.Subtrees.{IsNamed, AreNamed}
-use Rattle.ruby_parts.proofs.GoesOn.{names_later}
-use Rattle.ruby_parts.proofs.Built.{names_pushed}
-use Rattle.list_reader.specs.Answers.{taken}
+use Rattle.tree_builder.specs.Subtrees.{IsNamed, AreNamed}
+use Rattle.tree_builder.proofs.GoesOn.{names_later}
+use Rattle.tree_builder.proofs.Built.{names_pushed}
+use Rattle.reference_parser.specs.Answers.{taken}
 use Rattle.parse_state.specs.declared.standing.Parser.{Parser}
 use Rattle.parse_state.specs.Standing.{At, Later}
 use Rattle.parse_state.specs.Gives.{Gives, gave}

@@ -6,11 +6,11 @@ use Rattle.ruby_lexer.specs.Pieces.{Toks, Kind}
 use Rattle.ruby_lexer.specs.Pieces as token
 use Rattle.ruby_tree.specs.Names.{Texts}
 use Rattle.ruby_tree.specs.Tree.{Tree, at, integer}
-use Rattle.ruby_tree.specs.Rules.{Scope, next, spot}
-use Rattle.ruby_sight.specs.Sights.{integer_in}
-use Rattle.list_reader.specs.Answers.{Answer, taken, fault}
-use Rattle.list_reader.specs.ReadItems.{Readers}
-use Rattle.list_reader.specs.ReadOperands.{negative_by}
+use Rattle.ruby_tree.specs.Rules.{Scope, next, position}
+use Rattle.token_lookahead.specs.Lookaheads.{integer_in}
+use Rattle.reference_parser.specs.Answers.{Answer, taken, fault}
+use Rattle.reference_parser.specs.ReadItems.{Readers}
+use Rattle.reference_parser.specs.ReadOperands.{negative_by}
 use Rattle.parse_state.specs.declared.failures.Failure.{Failure}
 use Rattle.parse_state.specs.declared.standing.Parser.{Parser}
 use Rattle.parse_state.specs.Gives.{Gives}
@@ -18,7 +18,7 @@ use Rattle.parse_state.proofs.Steps.{named}
 
 module _ (source : Bytes) (R : Readers) (w : Toks) (s : Scope) where
   abbrev by_number : Option ℤ → Answer Tree
-  by_number (Some n) = taken (at (spot w) (integer (neg_ℤ n))) (next (next w)) s
+  by_number (Some n) = taken (at (position w) (integer (neg_ℤ n))) (next (next w)) s
   by_number None = fault
 
   same : (k : Option Kind) → negative_by source R w s k ≡ by_number (integer_in k)
@@ -27,7 +27,7 @@ module _ (source : Bytes) (R : Readers) (w : Toks) (s : Scope) where
   same _ = refl
 
   module _ {X : Type 0} {H : Texts → X → Tree → Type 0} {p q : Parser} {result : Result X Failure} where
-    pub negative_some : (k : Option Kind) {n : ℤ} → integer_in k ≡ Some n → Gives H p q result (taken (at (spot w) (integer (neg_ℤ n))) (next (next w)) s) → Gives H p q result (negative_by source R w s k)
+    pub negative_some : (k : Option Kind) {n : ℤ} → integer_in k ≡ Some n → Gives H p q result (taken (at (position w) (integer (neg_ℤ n))) (next (next w)) s) → Gives H p q result (negative_by source R w s k)
     negative_some k is g = named (same k ∙ ap by_number is) g
 
     pub negative_none : (k : Option Kind) → integer_in k ≡ None → Gives H p q result fault → Gives H p q result (negative_by source R w s k)

@@ -3,44 +3,44 @@ use Rattle.std.proofs.Common.{◌≡◌, refl, subst, ℕ, ℤ, ◌≤◌, le_re
 use Rattle.ruby_lexer.specs.Bytes.{Bytes}
 use Rattle.ruby_lexer.specs.Pieces.{Toks}
 use Rattle.ruby_tree.specs.Names.{Texts, Extends}
-use Rattle.ruby_tree.specs.Tree.{Spot, Form, Tree, Trees, Other, at, integer, array, send, super, yield, method}
+use Rattle.ruby_tree.specs.Tree.{SourcePosition, Form, Tree, Trees, Other, at, integer, array, send, super, yield, method}
 use Rattle.ruby_tree.specs.Rules.{Scope, next, is_mark}
 use Rattle.ruby_tree.specs.Build.{bare_form}
-use Rattle.ruby_parts.specs.declared.Subtree.{Subtree}
-use Rattle.ruby_parts.specs.Subtrees.{Holds}
-use Rattle.list_reader.specs.Answers.{Answer, taken, fault, deep, Parse, ◌>>=◌, Found, ◌>>>◌}
-use Rattle.list_reader.specs.ReadItems.{closed}
+use Rattle.tree_builder.specs.declared.Subtree.{Subtree}
+use Rattle.tree_builder.specs.Subtrees.{Holds}
+use Rattle.reference_parser.specs.Answers.{Answer, taken, fault, deep, Parse, ◌>>=◌, Found, ◌>>>◌}
+use Rattle.reference_parser.specs.ReadItems.{closed}
 use Rattle.parse_state.specs.declared.failures.Failure.{Failure}
 use Rattle.parse_state.specs.declared.standing.Parser.{Parser}
 use Rattle.parse_state.specs.Standing.{At, Later}
 use Rattle.parse_state.specs.Gives.{Gives, gave, no_syntax, too_deep, no_memory, Finds, finds, Expects, met, HoldsNothing}
 use Rattle.parse_state.proofs.Steps.{from, step}
 
--- a node at a spot by another name, and what is spread by another name
+-- a node at a position by another name, and what is spread by another name
 module _ {T : Texts} {x : Subtree} where
-  pub at_spot : {o p : Spot} {f : Form} → o ≡ p → Holds T x (at o f) → Holds T x (at p f)
-  at_spot {f} is h = subst (λ (s : Spot). Holds T x (at s f)) is h
+  pub at_spot : {o p : SourcePosition} {f : Form} → o ≡ p → Holds T x (at o f) → Holds T x (at p f)
+  at_spot {f} is h = subst (λ (s : SourcePosition). Holds T x (at s f)) is h
 
-  pub bare_named : {o : Spot} (z : Scope) {f g : Bytes} → f ≡ g → Holds T x (at o (bare_form z f)) → Holds T x (at o (bare_form z g))
+  pub bare_named : {o : SourcePosition} (z : Scope) {f g : Bytes} → f ≡ g → Holds T x (at o (bare_form z f)) → Holds T x (at o (bare_form z g))
   bare_named {o} z is h = subst (λ (y : Bytes). Holds T x (at o (bare_form z y))) is h
 
-  pub integer_as : {o : Spot} {n m : ℤ} → n ≡ m → Holds T x (at o (integer n)) → Holds T x (at o (integer m))
+  pub integer_as : {o : SourcePosition} {n m : ℤ} → n ≡ m → Holds T x (at o (integer n)) → Holds T x (at o (integer m))
   integer_as {o} is h = subst (λ (k : ℤ). Holds T x (at o (integer k))) is h
 
   -- a method of the object itself or not, as it was read
-  pub method_on : {o : Spot} {m : Bytes} {t : Tree} {b d : Bool} → b ≡ d → Holds T x (at o (method m t b)) → Holds T x (at o (method m t d))
+  pub method_on : {o : SourcePosition} {m : Bytes} {t : Tree} {b d : Bool} → b ≡ d → Holds T x (at o (method m t b)) → Holds T x (at o (method m t d))
   method_on {o} {m} {t} is h = subst (λ (c : Bool). Holds T x (at o (method m t c))) is h
 
-  pub send_spread : {o : Spot} {a : Other} {ts : Trees} {ks js : List ℕ} {v b : Other} {m : Bytes} {c : Bool} → ks ≡ js → Holds T x (at o (send a ts ks v m c b)) → Holds T x (at o (send a ts js v m c b))
+  pub send_spread : {o : SourcePosition} {a : Other} {ts : Trees} {ks js : List ℕ} {v b : Other} {m : Bytes} {c : Bool} → ks ≡ js → Holds T x (at o (send a ts ks v m c b)) → Holds T x (at o (send a ts js v m c b))
   send_spread {o} {a} {ts} {v} {b} {m} {c} is h = subst (λ (ls : List ℕ). Holds T x (at o (send a ts ls v m c b))) is h
 
-  pub super_spread : {o : Spot} {ts : Trees} {ks js : List ℕ} {v b : Other} → ks ≡ js → Holds T x (at o (super ts ks v b)) → Holds T x (at o (super ts js v b))
+  pub super_spread : {o : SourcePosition} {ts : Trees} {ks js : List ℕ} {v b : Other} → ks ≡ js → Holds T x (at o (super ts ks v b)) → Holds T x (at o (super ts js v b))
   super_spread {o} {ts} {v} {b} is h = subst (λ (ls : List ℕ). Holds T x (at o (super ts ls v b))) is h
 
-  pub yield_spread : {o : Spot} {ts : Trees} {ks js : List ℕ} → ks ≡ js → Holds T x (at o (yield ts ks)) → Holds T x (at o (yield ts js))
+  pub yield_spread : {o : SourcePosition} {ts : Trees} {ks js : List ℕ} → ks ≡ js → Holds T x (at o (yield ts ks)) → Holds T x (at o (yield ts js))
   yield_spread {o} {ts} is h = subst (λ (ls : List ℕ). Holds T x (at o (yield ts ls))) is h
 
-  pub array_spread : {o : Spot} {ts : Trees} {ks js : List ℕ} → ks ≡ js → Holds T x (at o (array ts ks)) → Holds T x (at o (array ts js))
+  pub array_spread : {o : SourcePosition} {ts : Trees} {ks js : List ℕ} → ks ≡ js → Holds T x (at o (array ts ks)) → Holds T x (at o (array ts js))
   array_spread {o} {ts} is h = subst (λ (ls : List ℕ). Holds T x (at o (array ts ls))) is h
 
 -- what is read, told by another name

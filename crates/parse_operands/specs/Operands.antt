@@ -2,18 +2,18 @@
 use Rattle.std.specs.Prelude.{◌≡◌, Bool}
 use Rattle.ruby_lexer.specs.Bytes.{Bytes}
 use Rattle.ruby_tree.specs.declared.names.Name.{Name}
-use Rattle.ruby_tree.specs.declared.spots.Spot as declared_spot
+use Rattle.ruby_tree.specs.declared.positions.SourcePosition as declared_spot
 use Rattle.ruby_tree.specs.Names.{Texts}
-use Rattle.ruby_tree.specs.Tree.{Spot, Tree}
-use Rattle.ruby_tree.specs.Spots.{spot_of}
-use Rattle.ruby_parts.specs.declared.Subtree.{Subtree}
-use Rattle.ruby_parts.specs.Subtrees.{IsNamed, Holds}
-use Rattle.list_reader.specs.ReadOperands.{Start, operand, attribute, element, command}
-use Rattle.parse_operands.specs.declared.starts.Start as declared_start
-use Rattle.parse_operands.specs.declared.starts.Start.TheVariants as start
+use Rattle.ruby_tree.specs.Tree.{SourcePosition, Tree}
+use Rattle.ruby_tree.specs.SourcePositions.{position_of}
+use Rattle.tree_builder.specs.declared.Subtree.{Subtree}
+use Rattle.tree_builder.specs.Subtrees.{IsNamed, Holds}
+use Rattle.reference_parser.specs.ReadOperands.{OperandForm, operand, attribute, element, command}
+use Rattle.parse_operands.specs.declared.starts.OperandForm as declared_start
+use Rattle.parse_operands.specs.declared.starts.OperandForm.TheVariants as start
 
-pub data HoldsStart (T : Texts) : declared_start.Start → Start → Type 0 where
+pub data HoldsStart (T : Texts) : declared_start.OperandForm → OperandForm → Type 0 where
   holds_operand : {x : Subtree} {a : Tree} → Holds T x a → HoldsStart T (start.Operand x) (operand a)
-  holds_attribute : {x : Subtree} {a : Tree} {o : declared_spot.Spot} {p : Spot} {n : Name} {f : Bytes} → Holds T x a → spot_of o ≡ p → IsNamed T n f → HoldsStart T (start.Attribute x o n) (attribute a p f)
-  holds_element : {x y : Subtree} {a i : Tree} {o : declared_spot.Spot} {p : Spot} → Holds T x a → spot_of o ≡ p → Holds T y i → HoldsStart T (start.Element x o y) (element a p i)
-  holds_command : {safe : Bool} {x : Subtree} {a : Tree} {o : declared_spot.Spot} {p : Spot} {n : Name} {f : Bytes} → Holds T x a → spot_of o ≡ p → IsNamed T n f → HoldsStart T (start.Command safe x o n) (command safe a p f)
+  holds_attribute : {x : Subtree} {a : Tree} {o : declared_spot.SourcePosition} {p : SourcePosition} {n : Name} {f : Bytes} → Holds T x a → position_of o ≡ p → IsNamed T n f → HoldsStart T (start.Attribute x o n) (attribute a p f)
+  holds_element : {x y : Subtree} {a i : Tree} {o : declared_spot.SourcePosition} {p : SourcePosition} → Holds T x a → position_of o ≡ p → Holds T y i → HoldsStart T (start.Element x o y) (element a p i)
+  holds_command : {safe : Bool} {x : Subtree} {a : Tree} {o : declared_spot.SourcePosition} {p : SourcePosition} {n : Name} {f : Bytes} → Holds T x a → position_of o ≡ p → IsNamed T n f → HoldsStart T (start.Command safe x o n) (command safe a p f)

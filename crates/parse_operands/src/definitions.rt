@@ -1,30 +1,30 @@
 //! Methods, classes and modules, whose bodies have locals of their own.
 ghost use Rattle.std.specs.Prelude.{◌≡◌};
-ghost use Rattle.ruby_sight.specs.Sights.{do_of};
-ghost use Rattle.ruby_parts.specs.Subtrees.{Holds};
-ghost use Rattle.list_reader.specs.ReadOperands.{read_method, read_class, read_module};
+ghost use Rattle.token_lookahead.specs.Lookaheads.{do_owner_of};
+ghost use Rattle.tree_builder.specs.Subtrees.{Holds};
+ghost use Rattle.reference_parser.specs.ReadOperands.{read_method, read_class, read_module};
 ghost use Rattle.parse_operands.specs.Definitions.{plain_body, class_at, module_at};
 ghost use Rattle.parse_state.specs.Gives.{Reads};
 
-use crate::behind::{constant_behind, header_behind, spot_here};
+use crate::behind::{constant_behind, header_behind, position_here};
 use crate::ends::ended;
-use parse_bodies::{body, parameters, superclass};
+use parse_parts::{body, parameters, superclass};
 use parse_state::{Context, Failure, Nested, Parser};
-use ruby_parts::{ParamSubtrees, Subtree, body as body_with, class, method, module_named};
-use ruby_sight::Do;
+use token_lookahead::DoBlockOwner;
+use tree_builder::{ParamSubtrees, Subtree, body as body_with, class, method, module_named};
 
 /// `def`
 pub fn method_definition<N: Nested>(
     context: Context<'_>,
     nested: &N,
     parser: &mut Parser<'_>,
-    takes: Do,
+    do_owner: DoBlockOwner,
 ) -> Result<Subtree, Failure>
     requires { N.IsReady nested.now }
-    ensures reads { Reads Holds parser.old parser.new result (read_method context.entry.source.now (N.readers nested.now context.entry.source.now) (do_of takes)) }
+    ensures reads { Reads Holds parser.old parser.new result (read_method context.entry.source.now (N.readers nested.now context.entry.source.now) (do_owner_of do_owner)) }
 {
-    let here = spot_here(context, parser);
-    let within = takes.within();
+    let here = position_here(context, parser);
+    let within = do_owner.within();
     parser.bump();
     let on_self = parser.skip_self(context)?;
     let name = parser.method_name(context, true)?;
@@ -42,13 +42,13 @@ fn plain_body<N: Nested>(
     context: Context<'_>,
     nested: &N,
     parser: &mut Parser<'_>,
-    takes: Do,
+    do_owner: DoBlockOwner,
 ) -> Result<Subtree, Failure>
     requires { N.IsReady nested.now }
-    ensures reads { Reads Holds parser.old parser.new result (plain_body context.entry.source.now (N.readers nested.now context.entry.source.now) (do_of takes)) }
+    ensures reads { Reads Holds parser.old parser.new result (plain_body context.entry.source.now (N.readers nested.now context.entry.source.now) (do_owner_of do_owner)) }
 {
-    let here = spot_here(context, parser);
-    body(context, nested, parser, takes, here)
+    let here = position_here(context, parser);
+    body(context, nested, parser, do_owner, here)
 }
 
 /// `class`
@@ -56,13 +56,13 @@ pub fn class_definition<N: Nested>(
     context: Context<'_>,
     nested: &N,
     parser: &mut Parser<'_>,
-    takes: Do,
+    do_owner: DoBlockOwner,
 ) -> Result<Subtree, Failure>
     requires { N.IsReady nested.now }
-    ensures reads { Reads Holds parser.old parser.new result (read_class context.entry.source.now (N.readers nested.now context.entry.source.now) (do_of takes)) }
+    ensures reads { Reads Holds parser.old parser.new result (read_class context.entry.source.now (N.readers nested.now context.entry.source.now) (do_owner_of do_owner)) }
 {
     if constant_behind(context, parser) {
-        return class_at(context, nested, parser, takes);
+        return class_at(context, nested, parser, do_owner);
     }
     Err(Failure::Syntax)
 }
@@ -71,13 +71,13 @@ fn class_at<N: Nested>(
     context: Context<'_>,
     nested: &N,
     parser: &mut Parser<'_>,
-    takes: Do,
+    do_owner: DoBlockOwner,
 ) -> Result<Subtree, Failure>
     requires { N.IsReady nested.now }
-    ensures reads { Reads Holds parser.old parser.new result (class_at context.entry.source.now (N.readers nested.now context.entry.source.now) (do_of takes)) }
+    ensures reads { Reads Holds parser.old parser.new result (class_at context.entry.source.now (N.readers nested.now context.entry.source.now) (do_owner_of do_owner)) }
 {
-    let here = spot_here(context, parser);
-    let within = takes.within();
+    let here = position_here(context, parser);
+    let within = do_owner.within();
     parser.bump();
     let name = parser.word_name(context)?;
     parser.bump();
@@ -97,13 +97,13 @@ pub fn module_definition<N: Nested>(
     context: Context<'_>,
     nested: &N,
     parser: &mut Parser<'_>,
-    takes: Do,
+    do_owner: DoBlockOwner,
 ) -> Result<Subtree, Failure>
     requires { N.IsReady nested.now }
-    ensures reads { Reads Holds parser.old parser.new result (read_module context.entry.source.now (N.readers nested.now context.entry.source.now) (do_of takes)) }
+    ensures reads { Reads Holds parser.old parser.new result (read_module context.entry.source.now (N.readers nested.now context.entry.source.now) (do_owner_of do_owner)) }
 {
     if header_behind(context, parser) {
-        return module_at(context, nested, parser, takes);
+        return module_at(context, nested, parser, do_owner);
     }
     Err(Failure::Syntax)
 }
@@ -112,13 +112,13 @@ fn module_at<N: Nested>(
     context: Context<'_>,
     nested: &N,
     parser: &mut Parser<'_>,
-    takes: Do,
+    do_owner: DoBlockOwner,
 ) -> Result<Subtree, Failure>
     requires { N.IsReady nested.now }
-    ensures reads { Reads Holds parser.old parser.new result (module_at context.entry.source.now (N.readers nested.now context.entry.source.now) (do_of takes)) }
+    ensures reads { Reads Holds parser.old parser.new result (module_at context.entry.source.now (N.readers nested.now context.entry.source.now) (do_owner_of do_owner)) }
 {
-    let here = spot_here(context, parser);
-    let within = takes.within();
+    let here = position_here(context, parser);
+    let within = do_owner.within();
     parser.bump();
     let name = parser.word_name(context)?;
     parser.bump();

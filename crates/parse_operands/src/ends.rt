@@ -5,18 +5,18 @@ ghost use Rattle.ruby_lexer.specs.Pieces.{Toks};
 ghost use Rattle.ruby_tree.specs.Names.{Texts};
 ghost use Rattle.ruby_tree.specs.Tree.{Tree};
 ghost use Rattle.ruby_tree.specs.Rules.{Scope, next};
-ghost use Rattle.ruby_parts.specs.Subtrees.{IsNamed, AreNamed, Holds};
-ghost use Rattle.list_reader.specs.Answers.{taken};
-ghost use Rattle.list_reader.specs.ReadItems.{Readers, closed};
-ghost use Rattle.list_reader.specs.ReadBodies.{ended};
+ghost use Rattle.tree_builder.specs.Subtrees.{IsNamed, AreNamed, Holds};
+ghost use Rattle.reference_parser.specs.Answers.{taken};
+ghost use Rattle.reference_parser.specs.ReadItems.{Readers, closed};
+ghost use Rattle.reference_parser.specs.ReadBodies.{ended};
 ghost use Rattle.parse_state.specs.Standing.{At};
 ghost use Rattle.parse_state.specs.Gives.{Gives, Reads};
 
 use bs_outside::NoMemory;
 use parse_state::{Context, Failure, Parser};
-use ruby_parts::Subtree;
 use ruby_tree::Name;
 use std::alloc::Global;
+use tree_builder::Subtree;
 
 /// A part that is the first token.
 pub fn leaf(parser: &mut Parser<'_>, part: Subtree) -> Result<Subtree, Failure>

@@ -1,6 +1,6 @@
 //! Operands, and what stands behind them.
 //!
-//! A function that reads gives what the reader on lists (`list_reader`) takes from where the parser stood, and leaves the parser behind it.
+//! A function that reads gives what the reader on lists (`reference_parser`) takes from where the parser stood, and leaves the parser behind it.
 #![tactic(auto)]
 
 mod behind;
@@ -17,4 +17,4 @@ mod words;
 
 pub use postfixes::postfix;
 pub use primaries::primary;
-pub use starts::Start;
+pub use starts::OperandForm;

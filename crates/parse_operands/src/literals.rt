@@ -5,22 +5,22 @@ ghost use Rattle.ruby_lexer.specs.Forms.{text_of};
 ghost use Rattle.ruby_lexer.specs.Pieces.{Toks, seen_parts};
 ghost use Rattle.ruby_tree.specs.Tree.{at, array, symbol};
 ghost use Rattle.ruby_tree.specs.Build.{texts_at, symbols_at};
-ghost use Rattle.ruby_tree.specs.Rules.{Scope, next, spot};
-ghost use Rattle.ruby_parts.specs.Subtrees.{Holds, AreNamed};
-ghost use Rattle.list_reader.specs.Answers.{taken};
-ghost use Rattle.list_reader.specs.ReadOperands.{literal_by};
+ghost use Rattle.ruby_tree.specs.Rules.{Scope, next, position};
+ghost use Rattle.tree_builder.specs.Subtrees.{Holds, AreNamed};
+ghost use Rattle.reference_parser.specs.Answers.{taken};
+ghost use Rattle.reference_parser.specs.ReadOperands.{literal_by};
 ghost use Rattle.parse_state.specs.Standing.{At};
 ghost use Rattle.parse_state.specs.Gives.{Gives, Reads};
 
-use crate::behind::spot_here;
+use crate::behind::position_here;
 use crate::ends::leaf;
 use bs_outside::Bytes;
-use parse_bodies::text_parts;
+use parse_parts::text_parts;
 use parse_state::{Context, Failure, Nested, Parser};
 use ruby_lexer::Part;
-use ruby_parts::{Subtree, array, joined, symbol, symbols_at, text, texts_at};
-use ruby_sight::plain_text;
 use ruby_tree::Name;
+use token_lookahead::plain_text;
+use tree_builder::{Subtree, array, joined, symbol, symbols_at, text, texts_at};
 
 /// A text of these parts.
 pub fn literal<'a, N: Nested>(
@@ -32,7 +32,7 @@ pub fn literal<'a, N: Nested>(
     requires { N.IsReady nested.now }
     ensures reads { Reads Holds parser.old parser.new result (λ w s. literal_by context.entry.source.now (N.readers nested.now context.entry.source.now) w s (seen_parts parts.entry.now) (text_of (seen_parts parts.entry.now))) }
 {
-    let here = spot_here(context, parser);
+    let here = position_here(context, parser);
     let plain = plain_text(context.alloc, parts)?;
     match plain {
         Some(bytes) => leaf(parser, text(here, bytes)),
@@ -50,7 +50,7 @@ fn joined_text<'a, N: Nested>(
     requires { N.IsReady nested.now }
     ensures reads { Reads Holds parser.old parser.new result (λ w s. literal_by context.entry.source.now (N.readers nested.now context.entry.source.now) w s (seen_parts parts.entry.now) None) }
 {
-    let here = spot_here(context, parser);
+    let here = position_here(context, parser);
     let pieces = text_parts(context, nested, parser, parts)?;
     leaf(parser, joined(here, pieces))
 }
@@ -61,9 +61,9 @@ pub fn symbol_named(
     parser: &mut Parser<'_>,
     text: &[u8],
 ) -> Result<Subtree, Failure>
-    ensures reads { Reads Holds parser.old parser.new result (λ w s. taken (at (spot w) (symbol text.now)) (next w) s) }
+    ensures reads { Reads Holds parser.old parser.new result (λ w s. taken (at (position w) (symbol text.now)) (next w) s) }
 {
-    let here = spot_here(context, parser);
+    let here = position_here(context, parser);
     let name = parser.intern(context, text)?;
     leaf(parser, symbol(here, name))
 }
@@ -74,9 +74,9 @@ pub fn word_list(
     parser: &mut Parser<'_>,
     words: &[Bytes],
 ) -> Result<Subtree, Failure>
-    ensures reads { Reads Holds parser.old parser.new result (λ w s. taken (at (spot w) (array (texts_at (spot w) words.now) [])) (next w) s) }
+    ensures reads { Reads Holds parser.old parser.new result (λ w s. taken (at (position w) (array (texts_at (position w) words.now) [])) (next w) s) }
 {
-    let here = spot_here(context, parser);
+    let here = position_here(context, parser);
     let elements = texts_at(context.alloc, here, words)?;
     leaf(parser, array(here, elements, Vec::new(context.alloc)))
 }
@@ -87,9 +87,9 @@ pub fn symbol_list(
     parser: &mut Parser<'_>,
     texts: &[Bytes],
 ) -> Result<Subtree, Failure>
-    ensures reads { Reads Holds parser.old parser.new result (λ w s. taken (at (spot w) (array (symbols_at (spot w) texts.now) [])) (next w) s) }
+    ensures reads { Reads Holds parser.old parser.new result (λ w s. taken (at (position w) (array (symbols_at (position w) texts.now) [])) (next w) s) }
 {
-    let here = spot_here(context, parser);
+    let here = position_here(context, parser);
     let names = names_of(context, parser, texts)?;
     let listed = names.as_slice();
     let elements = symbols_at(context.alloc, here, listed)?;

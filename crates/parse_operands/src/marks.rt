@@ -2,34 +2,34 @@
 ghost use Rattle.std.specs.Prelude.{◌≡◌, true, ◌∷◌, [], ℕ, ℤ, neg_ℤ, Some, length};
 ghost use Rattle.ruby_lexer.specs.Pieces.{Toks};
 ghost use Rattle.ruby_tree.specs.Tree.{at, integer};
-ghost use Rattle.ruby_tree.specs.Rules.{Scope, next, spot, front};
-ghost use Rattle.ruby_sight.specs.Sights.{do_of};
-ghost use Rattle.ruby_parts.specs.Subtrees.{Holds};
-ghost use Rattle.list_reader.specs.Answers.{taken};
-ghost use Rattle.list_reader.specs.ReadItems.{Readers};
-ghost use Rattle.list_reader.specs.ReadOperands.{read_mark, read_list, read_hash, read_group, negative_by};
+ghost use Rattle.ruby_tree.specs.Rules.{Scope, next, position, front};
+ghost use Rattle.token_lookahead.specs.Lookaheads.{do_owner_of};
+ghost use Rattle.tree_builder.specs.Subtrees.{Holds};
+ghost use Rattle.reference_parser.specs.Answers.{taken};
+ghost use Rattle.reference_parser.specs.ReadItems.{Readers};
+ghost use Rattle.reference_parser.specs.ReadOperands.{read_mark, read_list, read_hash, read_group, negative_by};
 ghost use Rattle.parse_operands.specs.Literals.{full_list, full_hash, top_constant};
 ghost use Rattle.parse_state.specs.Standing.{At};
 ghost use Rattle.parse_state.specs.Gives.{Gives, Reads};
 
-use crate::behind::{constant_behind, integer_behind, mark_behind, negative_here, spot_here};
+use crate::behind::{constant_behind, integer_behind, mark_behind, negative_here, position_here};
 use crate::ends::{closed, leaf, one_name};
-use parse_items::{elements, pair_list};
+use parse_parts::{elements, pair_list};
 use parse_state::{Context, Failure, Nested, Parser};
-use ruby_parts::{
-    OtherSubtree, PairSubtrees, Subtree, Subtrees, array, constant_path, hash, integer,
+use token_lookahead::DoBlockOwner;
+use tree_builder::{
+    ElseSubtree, PairSubtrees, Subtree, Subtrees, array, constant_path, hash, integer,
 };
-use ruby_sight::Do;
 
 /// What begins with a mark.
 pub fn mark<N: Nested>(
     context: Context<'_>,
     nested: &N,
     parser: &mut Parser<'_>,
-    takes: Do,
+    do_owner: DoBlockOwner,
 ) -> Result<Subtree, Failure>
     requires { N.IsReady nested.now }
-    ensures reads { Reads Holds parser.old parser.new result (read_mark context.entry.source.now (N.readers nested.now context.entry.source.now) (do_of takes)) }
+    ensures reads { Reads Holds parser.old parser.new result (read_mark context.entry.source.now (N.readers nested.now context.entry.source.now) (do_owner_of do_owner)) }
 {
     if parser.is_mark(context, "[") {
         return list(context, nested, parser);
@@ -62,7 +62,7 @@ fn list<N: Nested>(
     ensures reads { Reads Holds parser.old parser.new result (read_list context.entry.source.now (N.readers nested.now context.entry.source.now)) }
 {
     if mark_behind(context, parser, "]") {
-        let here = spot_here(context, parser);
+        let here = position_here(context, parser);
         let elements = Subtrees::new(context.alloc);
         parser.bump();
         return leaf(parser, array(here, elements, Vec::new(context.alloc)));
@@ -78,7 +78,7 @@ fn full_list<N: Nested>(
     requires { N.IsReady nested.now }
     ensures reads { Reads Holds parser.old parser.new result (full_list context.entry.source.now (N.readers nested.now context.entry.source.now)) }
 {
-    let here = spot_here(context, parser);
+    let here = position_here(context, parser);
     parser.bump();
     let given = elements(context, nested, parser)?;
     let whole = array(here, given.arguments, given.spread);
@@ -95,7 +95,7 @@ fn braces<N: Nested>(
     ensures reads { Reads Holds parser.old parser.new result (read_hash context.entry.source.now (N.readers nested.now context.entry.source.now)) }
 {
     if mark_behind(context, parser, "}") {
-        let here = spot_here(context, parser);
+        let here = position_here(context, parser);
         parser.bump();
         return leaf(parser, hash(here, PairSubtrees::new(context.alloc)));
     }
@@ -110,9 +110,9 @@ fn full_hash<N: Nested>(
     requires { N.IsReady nested.now }
     ensures reads { Reads Holds parser.old parser.new result (full_hash context.entry.source.now (N.readers nested.now context.entry.source.now)) }
 {
-    let here = spot_here(context, parser);
+    let here = position_here(context, parser);
     parser.bump();
-    let pairs = pair_list(context, nested, parser, Do::Own)?;
+    let pairs = pair_list(context, nested, parser, DoBlockOwner::Own)?;
     closed(context, parser, "}", hash(here, pairs))
 }
 
@@ -126,7 +126,7 @@ fn group<N: Nested>(
     ensures reads { Reads Holds parser.old parser.new result (read_group context.entry.source.now (N.readers nested.now context.entry.source.now)) }
 {
     parser.bump();
-    let part = nested.statements(context, parser, Do::Own)?;
+    let part = nested.statements(context, parser, DoBlockOwner::Own)?;
     parser.expect_mark(context, ")")?;
     Ok(part)
 }
@@ -135,13 +135,13 @@ fn group<N: Nested>(
 fn top_constant(context: Context<'_>, parser: &mut Parser<'_>) -> Result<Subtree, Failure>
     ensures reads { Reads Holds parser.old parser.new result (top_constant context.entry.source.now) }
 {
-    let here = spot_here(context, parser);
+    let here = position_here(context, parser);
     parser.bump();
     let name = parser.word_name(context)?;
     let names = one_name(context.alloc, name)?;
     leaf(
         parser,
-        constant_path(here, OtherSubtree::none(), true, names),
+        constant_path(here, ElseSubtree::none(), true, names),
     )
 }
 
@@ -157,9 +157,9 @@ fn negative(context: Context<'_>, parser: &mut Parser<'_>) -> Result<Subtree, Fa
 
 // The least number of a token has no negation in a node. The lexer never makes it: whole numbers are written without a sign.
 fn negated(context: Context<'_>, parser: &mut Parser<'_>, value: i64) -> Result<Subtree, Failure>
-    ensures reads { Reads Holds parser.old parser.new result (λ w s. taken (at (spot w) (integer (neg_ℤ value))) (next (next w)) s) }
+    ensures reads { Reads Holds parser.old parser.new result (λ w s. taken (at (position w) (integer (neg_ℤ value))) (next (next w)) s) }
 {
-    let here = spot_here(context, parser);
+    let here = position_here(context, parser);
     match value.checked_neg() {
         Some(opposite) => {
             parser.bump();

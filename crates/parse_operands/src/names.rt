@@ -1,44 +1,43 @@
 //! Operands that are a name, a constant, `yield` or `super`, with what they are given.
 ghost use Rattle.std.specs.Prelude.{◌≡◌, true, false};
 ghost use Rattle.ruby_tree.specs.Tree.{at, local, instance, global};
-ghost use Rattle.ruby_tree.specs.Rules.{next, spot, word};
+ghost use Rattle.ruby_tree.specs.Rules.{next, position, word};
 ghost use Rattle.ruby_tree.specs.Build.{bare_form};
-ghost use Rattle.ruby_sight.specs.Sights.{do_of};
-ghost use Rattle.ruby_parts.specs.Subtrees.{Holds};
-ghost use Rattle.list_reader.specs.Answers.{taken};
-ghost use Rattle.list_reader.specs.ReadOperands.{called_name, read_name, read_constant, read_yield, read_super};
+ghost use Rattle.token_lookahead.specs.Lookaheads.{do_owner_of};
+ghost use Rattle.tree_builder.specs.Subtrees.{Holds};
+ghost use Rattle.reference_parser.specs.Answers.{taken};
+ghost use Rattle.reference_parser.specs.ReadOperands.{called_name, read_name, read_constant, read_yield, read_super};
 ghost use Rattle.parse_operands.specs.Names.{blocked_name, plain_name, plain_constant, given_yield, given_super, lone_super};
 ghost use Rattle.parse_state.specs.Gives.{Reads};
 
-use crate::behind::{arguments_behind, block_behind, local_here, opens_behind, spot_here};
+use crate::behind::{arguments_behind, block_behind, local_here, opens_behind, position_here};
 use crate::ends::leaf;
-use parse_bodies::{block, call_block};
-use parse_items::{GivenParts, in_brackets};
+use parse_parts::{ArgumentParts, block, call_block, in_brackets};
 use parse_state::{Context, Failure, Nested, Parser};
-use ruby_parts::{
-    OtherSubtree, Subtree, Subtrees, bare_form, bare_super, global, instance, local, read_form,
+use ruby_tree::Target;
+use token_lookahead::DoBlockOwner;
+use tree_builder::{
+    ElseSubtree, Subtree, Subtrees, bare_form, bare_super, global, instance, local, read_form,
     send, super_with, yield_with,
 };
-use ruby_sight::Do;
-use ruby_tree::Target;
 
 /// A name, and what it is given.
 pub fn name<N: Nested>(
     context: Context<'_>,
     nested: &N,
     parser: &mut Parser<'_>,
-    takes: Do,
+    do_owner: DoBlockOwner,
 ) -> Result<Subtree, Failure>
     requires { N.IsReady nested.now }
-    ensures reads { Reads Holds parser.old parser.new result (read_name context.entry.source.now (N.readers nested.now context.entry.source.now) (do_of takes)) }
+    ensures reads { Reads Holds parser.old parser.new result (read_name context.entry.source.now (N.readers nested.now context.entry.source.now) (do_owner_of do_owner)) }
 {
     if opens_behind(context, parser) {
-        return called_name(context, nested, parser, takes);
+        return called_name(context, nested, parser, do_owner);
     }
     if parser.is_command(context) {
         return Err(Failure::Syntax);
     }
-    if block_behind(context, parser, takes) {
+    if block_behind(context, parser, do_owner) {
         return blocked_name(context, nested, parser);
     }
     plain_name(context, parser)
@@ -49,13 +48,13 @@ pub fn constant<N: Nested>(
     context: Context<'_>,
     nested: &N,
     parser: &mut Parser<'_>,
-    takes: Do,
+    do_owner: DoBlockOwner,
 ) -> Result<Subtree, Failure>
     requires { N.IsReady nested.now }
-    ensures reads { Reads Holds parser.old parser.new result (read_constant context.entry.source.now (N.readers nested.now context.entry.source.now) (do_of takes)) }
+    ensures reads { Reads Holds parser.old parser.new result (read_constant context.entry.source.now (N.readers nested.now context.entry.source.now) (do_owner_of do_owner)) }
 {
     if opens_behind(context, parser) {
-        return called_name(context, nested, parser, takes);
+        return called_name(context, nested, parser, do_owner);
     }
     plain_constant(context, parser)
 }
@@ -65,24 +64,24 @@ fn called_name<N: Nested>(
     context: Context<'_>,
     nested: &N,
     parser: &mut Parser<'_>,
-    takes: Do,
+    do_owner: DoBlockOwner,
 ) -> Result<Subtree, Failure>
     requires { N.IsReady nested.now }
-    ensures reads { Reads Holds parser.old parser.new result (called_name context.entry.source.now (N.readers nested.now context.entry.source.now) (do_of takes)) }
+    ensures reads { Reads Holds parser.old parser.new result (called_name context.entry.source.now (N.readers nested.now context.entry.source.now) (do_owner_of do_owner)) }
 {
-    let here = spot_here(context, parser);
+    let here = position_here(context, parser);
     let name = parser.word_name(context)?;
     parser.bump();
     let given = in_brackets(context, nested, parser)?;
     let has_block = given.has_block();
-    let GivenParts {
+    let ArgumentParts {
         arguments,
         spread,
         value,
         block,
     } = given;
-    let block = call_block(context, nested, parser, takes, has_block, block)?;
-    let receiver = OtherSubtree::none();
+    let block = call_block(context, nested, parser, do_owner, has_block, block)?;
+    let receiver = ElseSubtree::none();
     Ok(send(here, receiver, arguments, spread, value, name, false, block))
 }
 
@@ -95,15 +94,15 @@ fn blocked_name<N: Nested>(
     requires { N.IsReady nested.now }
     ensures reads { Reads Holds parser.old parser.new result (blocked_name context.entry.source.now (N.readers nested.now context.entry.source.now)) }
 {
-    let here = spot_here(context, parser);
+    let here = position_here(context, parser);
     let name = parser.word_name(context)?;
     parser.bump();
     let part = block(context, nested, parser)?;
-    let code = OtherSubtree::some(context.alloc, part)?;
-    let receiver = OtherSubtree::none();
+    let code = ElseSubtree::some(context.alloc, part)?;
+    let receiver = ElseSubtree::none();
     let arguments = Subtrees::new(context.alloc);
     let spread = Vec::new(context.alloc);
-    let value = OtherSubtree::none();
+    let value = ElseSubtree::none();
     Ok(send(here, receiver, arguments, spread, value, name, false, code))
 }
 
@@ -118,18 +117,18 @@ fn plain_name(context: Context<'_>, parser: &mut Parser<'_>) -> Result<Subtree, 
 }
 
 fn local_name(context: Context<'_>, parser: &mut Parser<'_>) -> Result<Subtree, Failure>
-    ensures reads { Reads Holds parser.old parser.new result (λ w s. taken (at (spot w) (local (word context.entry.source.now w))) (next w) s) }
+    ensures reads { Reads Holds parser.old parser.new result (λ w s. taken (at (position w) (local (word context.entry.source.now w))) (next w) s) }
 {
-    let here = spot_here(context, parser);
+    let here = position_here(context, parser);
     let name = parser.word_name(context)?;
     leaf(parser, local(here, name))
 }
 
 fn bare_name(context: Context<'_>, parser: &mut Parser<'_>) -> Result<Subtree, Failure>
-    ensures reads { Reads Holds parser.old parser.new result (λ w s. taken (at (spot w) (bare_form s (word context.entry.source.now w))) (next w) s) }
+    ensures reads { Reads Holds parser.old parser.new result (λ w s. taken (at (position w) (bare_form s (word context.entry.source.now w))) (next w) s) }
 {
-    let here = spot_here(context, parser);
-    let text = parser.sight(context).word();
+    let here = position_here(context, parser);
+    let text = parser.lookahead(context).word();
     let name = parser.intern(context, text)?;
     let part = bare_form(context.alloc, here, parser.in_clause, text, name);
     leaf(parser, part)
@@ -139,7 +138,7 @@ fn bare_name(context: Context<'_>, parser: &mut Parser<'_>) -> Result<Subtree, F
 fn plain_constant(context: Context<'_>, parser: &mut Parser<'_>) -> Result<Subtree, Failure>
     ensures reads { Reads Holds parser.old parser.new result (plain_constant context.entry.source.now) }
 {
-    let here = spot_here(context, parser);
+    let here = position_here(context, parser);
     let name = parser.word_name(context)?;
     let part = read_form(context.alloc, here, Target::Constant(name))?;
     leaf(parser, part)
@@ -147,18 +146,18 @@ fn plain_constant(context: Context<'_>, parser: &mut Parser<'_>) -> Result<Subtr
 
 /// A variable of an object.
 pub fn instance_variable(context: Context<'_>, parser: &mut Parser<'_>) -> Result<Subtree, Failure>
-    ensures reads { Reads Holds parser.old parser.new result (λ w s. taken (at (spot w) (instance (word context.entry.source.now w))) (next w) s) }
+    ensures reads { Reads Holds parser.old parser.new result (λ w s. taken (at (position w) (instance (word context.entry.source.now w))) (next w) s) }
 {
-    let here = spot_here(context, parser);
+    let here = position_here(context, parser);
     let name = parser.word_name(context)?;
     leaf(parser, instance(here, name))
 }
 
 /// A global variable.
 pub fn global_variable(context: Context<'_>, parser: &mut Parser<'_>) -> Result<Subtree, Failure>
-    ensures reads { Reads Holds parser.old parser.new result (λ w s. taken (at (spot w) (global (word context.entry.source.now w))) (next w) s) }
+    ensures reads { Reads Holds parser.old parser.new result (λ w s. taken (at (position w) (global (word context.entry.source.now w))) (next w) s) }
 {
-    let here = spot_here(context, parser);
+    let here = position_here(context, parser);
     let name = parser.word_name(context)?;
     leaf(parser, global(here, name))
 }
@@ -178,7 +177,7 @@ pub fn yielded<N: Nested>(
     if arguments_behind(context, parser) {
         return Err(Failure::Syntax);
     }
-    let here = spot_here(context, parser);
+    let here = position_here(context, parser);
     let arguments = Subtrees::new(context.alloc);
     let spread = Vec::new(context.alloc);
     leaf(parser, yield_with(here, arguments, spread))
@@ -193,7 +192,7 @@ fn given_yield<N: Nested>(
     requires { N.IsReady nested.now }
     ensures reads { Reads Holds parser.old parser.new result (given_yield context.entry.source.now (N.readers nested.now context.entry.source.now)) }
 {
-    let here = spot_here(context, parser);
+    let here = position_here(context, parser);
     parser.bump();
     let given = in_brackets(context, nested, parser)?;
     if given.has_block() {
@@ -207,18 +206,18 @@ pub fn super_call<N: Nested>(
     context: Context<'_>,
     nested: &N,
     parser: &mut Parser<'_>,
-    takes: Do,
+    do_owner: DoBlockOwner,
 ) -> Result<Subtree, Failure>
     requires { N.IsReady nested.now }
-    ensures reads { Reads Holds parser.old parser.new result (read_super context.entry.source.now (N.readers nested.now context.entry.source.now) (do_of takes)) }
+    ensures reads { Reads Holds parser.old parser.new result (read_super context.entry.source.now (N.readers nested.now context.entry.source.now) (do_owner_of do_owner)) }
 {
     if opens_behind(context, parser) {
-        return given_super(context, nested, parser, takes);
+        return given_super(context, nested, parser, do_owner);
     }
     if arguments_behind(context, parser) {
         return Err(Failure::Syntax);
     }
-    lone_super(context, nested, parser, takes)
+    lone_super(context, nested, parser, do_owner)
 }
 
 // `super` with brackets.
@@ -226,22 +225,22 @@ fn given_super<N: Nested>(
     context: Context<'_>,
     nested: &N,
     parser: &mut Parser<'_>,
-    takes: Do,
+    do_owner: DoBlockOwner,
 ) -> Result<Subtree, Failure>
     requires { N.IsReady nested.now }
-    ensures reads { Reads Holds parser.old parser.new result (given_super context.entry.source.now (N.readers nested.now context.entry.source.now) (do_of takes)) }
+    ensures reads { Reads Holds parser.old parser.new result (given_super context.entry.source.now (N.readers nested.now context.entry.source.now) (do_owner_of do_owner)) }
 {
-    let here = spot_here(context, parser);
+    let here = position_here(context, parser);
     parser.bump();
     let given = in_brackets(context, nested, parser)?;
     let has_block = given.has_block();
-    let GivenParts {
+    let ArgumentParts {
         arguments,
         spread,
         value,
         block,
     } = given;
-    let block = call_block(context, nested, parser, takes, has_block, block)?;
+    let block = call_block(context, nested, parser, do_owner, has_block, block)?;
     Ok(super_with(here, arguments, spread, value, block))
 }
 
@@ -250,13 +249,20 @@ fn lone_super<N: Nested>(
     context: Context<'_>,
     nested: &N,
     parser: &mut Parser<'_>,
-    takes: Do,
+    do_owner: DoBlockOwner,
 ) -> Result<Subtree, Failure>
     requires { N.IsReady nested.now }
-    ensures reads { Reads Holds parser.old parser.new result (lone_super context.entry.source.now (N.readers nested.now context.entry.source.now) (do_of takes)) }
+    ensures reads { Reads Holds parser.old parser.new result (lone_super context.entry.source.now (N.readers nested.now context.entry.source.now) (do_owner_of do_owner)) }
 {
-    let here = spot_here(context, parser);
+    let here = position_here(context, parser);
     parser.bump();
-    let block = call_block(context, nested, parser, takes, false, OtherSubtree::none())?;
+    let block = call_block(
+        context,
+        nested,
+        parser,
+        do_owner,
+        false,
+        ElseSubtree::none(),
+    )?;
     Ok(bare_super(here, block))
 }

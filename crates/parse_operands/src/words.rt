@@ -1,33 +1,33 @@
 //! Operands that begin with a word of the language.
 ghost use Rattle.std.specs.Prelude.{◌≡◌};
-ghost use Rattle.ruby_sight.specs.Sights.{do_of};
-ghost use Rattle.ruby_parts.specs.Subtrees.{Holds};
-ghost use Rattle.list_reader.specs.ReadOperands.{read_word, read_form, block_form_at};
+ghost use Rattle.token_lookahead.specs.Lookaheads.{do_owner_of};
+ghost use Rattle.tree_builder.specs.Subtrees.{Holds};
+ghost use Rattle.reference_parser.specs.ReadOperands.{read_word, read_form, block_form_at};
 ghost use Rattle.parse_state.specs.Gives.{Reads};
 
-use crate::behind::spot_here;
+use crate::behind::position_here;
 use crate::definitions::{class_definition, method_definition, module_definition};
 use crate::ends::leaf;
 use crate::forms::{begun, case, choice, looped};
 use crate::names::{super_call, yielded};
 use parse_state::{Context, Failure, Nested, Parser};
-use ruby_parts::{
+use token_lookahead::DoBlockOwner;
+use tree_builder::{
     Subtree, false_value, file_name, folder_name, line_number, nil_value, retry, self_value,
     true_value,
 };
-use ruby_sight::Do;
 
 /// What begins with a word of the language.
 pub fn word<N: Nested>(
     context: Context<'_>,
     nested: &N,
     parser: &mut Parser<'_>,
-    takes: Do,
+    do_owner: DoBlockOwner,
 ) -> Result<Subtree, Failure>
     requires { N.IsReady nested.now }
-    ensures reads { Reads Holds parser.old parser.new result (read_word context.entry.source.now (N.readers nested.now context.entry.source.now) (do_of takes)) }
+    ensures reads { Reads Holds parser.old parser.new result (read_word context.entry.source.now (N.readers nested.now context.entry.source.now) (do_owner_of do_owner)) }
 {
-    let here = spot_here(context, parser);
+    let here = position_here(context, parser);
     if parser.is_word(context, "nil") {
         return leaf(parser, nil_value(here));
     }
@@ -52,7 +52,7 @@ pub fn word<N: Nested>(
     if parser.is_word(context, "retry") {
         return leaf(parser, retry(here));
     }
-    form(context, nested, parser, takes)
+    form(context, nested, parser, do_owner)
 }
 
 // A word with parts.
@@ -60,30 +60,30 @@ fn form<N: Nested>(
     context: Context<'_>,
     nested: &N,
     parser: &mut Parser<'_>,
-    takes: Do,
+    do_owner: DoBlockOwner,
 ) -> Result<Subtree, Failure>
     requires { N.IsReady nested.now }
-    ensures reads { Reads Holds parser.old parser.new result (read_form context.entry.source.now (N.readers nested.now context.entry.source.now) (do_of takes)) }
+    ensures reads { Reads Holds parser.old parser.new result (read_form context.entry.source.now (N.readers nested.now context.entry.source.now) (do_owner_of do_owner)) }
 {
     if parser.is_word(context, "yield") {
         return yielded(context, nested, parser);
     }
     if parser.is_word(context, "super") {
-        return super_call(context, nested, parser, takes);
+        return super_call(context, nested, parser, do_owner);
     }
     if parser.is_word(context, "if") {
-        return choice(context, nested, parser, takes, true);
+        return choice(context, nested, parser, do_owner, true);
     }
     if parser.is_word(context, "unless") {
-        return choice(context, nested, parser, takes, false);
+        return choice(context, nested, parser, do_owner, false);
     }
     if parser.is_word(context, "while") {
-        return looped(context, nested, parser, takes, false);
+        return looped(context, nested, parser, do_owner, false);
     }
     if parser.is_word(context, "until") {
-        return looped(context, nested, parser, takes, true);
+        return looped(context, nested, parser, do_owner, true);
     }
-    block_form(context, nested, parser, takes)
+    block_form(context, nested, parser, do_owner)
 }
 
 // `begin`, `case` or a definition.
@@ -91,25 +91,25 @@ fn block_form<N: Nested>(
     context: Context<'_>,
     nested: &N,
     parser: &mut Parser<'_>,
-    takes: Do,
+    do_owner: DoBlockOwner,
 ) -> Result<Subtree, Failure>
     requires { N.IsReady nested.now }
-    ensures reads { Reads Holds parser.old parser.new result (block_form_at context.entry.source.now (N.readers nested.now context.entry.source.now) (do_of takes)) }
+    ensures reads { Reads Holds parser.old parser.new result (block_form_at context.entry.source.now (N.readers nested.now context.entry.source.now) (do_owner_of do_owner)) }
 {
     if parser.is_word(context, "begin") {
-        return begun(context, nested, parser, takes);
+        return begun(context, nested, parser, do_owner);
     }
     if parser.is_word(context, "case") {
-        return case(context, nested, parser, takes);
+        return case(context, nested, parser, do_owner);
     }
     if parser.is_word(context, "def") {
-        return method_definition(context, nested, parser, takes);
+        return method_definition(context, nested, parser, do_owner);
     }
     if parser.is_word(context, "class") {
-        return class_definition(context, nested, parser, takes);
+        return class_definition(context, nested, parser, do_owner);
     }
     if parser.is_word(context, "module") {
-        return module_definition(context, nested, parser, takes);
+        return module_definition(context, nested, parser, do_owner);
     }
     Err(Failure::Syntax)
 }

@@ -4,7 +4,7 @@ use Rattle.ruby_lexer.specs.declared.token.Token.{Token}
 use Rattle.ruby_lexer.specs.Bytes.{Bytes}
 use Rattle.ruby_lexer.specs.Pieces.{Toks, none, more, seen_all}
 use Rattle.ruby_tree.specs.Rules.{Scope, next}
-use Rattle.list_reader.specs.Fronts.{is_newline, skip_newlines}
+use Rattle.reference_parser.specs.Fronts.{is_newline, skip_newlines}
 use Rattle.parse_state.specs.declared.standing.Parser.{Parser}
 use Rattle.parse_state.specs.Standing.{At, Later, toks_of, scope_of}
 use Rattle.parse_state.proofs.Steps.{later_same, later_then}

@@ -4,7 +4,7 @@ use Rattle.ruby_lexer.specs.Pieces.{Toks}
 use Rattle.ruby_tree.specs.Names.{Texts}
 use Rattle.ruby_tree.specs.Rules.{Scope}
 use Rattle.ruby_tree.specs.FaultLine.{count_of}
-use Rattle.list_reader.specs.Answers.{Answer, taken, fault, deep, Parse, Found, found, missing}
+use Rattle.reference_parser.specs.Answers.{Answer, taken, fault, deep, Parse, Found, found, missing}
 use Rattle.parse_state.specs.declared.failures.Failure.{Failure}
 use Rattle.parse_state.specs.declared.failures.Failure.TheVariants as failure
 use Rattle.parse_state.specs.declared.standing.Parser.{Parser}

@@ -2,23 +2,23 @@
 ghost use Rattle.std.specs.Prelude.{◌≡◌, ◌≤◌, ◌-◌, ◌++◌, length, drop, codes, true, Some};
 ghost use Rattle.ruby_lexer.specs.Bytes.{Bytes};
 ghost use Rattle.ruby_lexer.specs.Pieces.{Toks, seen_all};
-ghost use Rattle.ruby_tree.specs.Spots.{spot_of};
+ghost use Rattle.ruby_tree.specs.SourcePositions.{position_of};
 ghost use Rattle.ruby_tree.specs.Names.{Extends};
 ghost use Rattle.ruby_tree.specs.Rules.{Scope, next, word, declare, fresh, in_clause, outside_clause, behind};
 ghost use Rattle.ruby_tree.specs.Rules as test;
-ghost use Rattle.ruby_parts.specs.Subtrees.{IsNamed};
-ghost use Rattle.list_reader.specs.Answers.{taken};
-ghost use Rattle.list_reader.specs.ReadItems.{closed};
+ghost use Rattle.tree_builder.specs.Subtrees.{IsNamed};
+ghost use Rattle.reference_parser.specs.Answers.{taken};
+ghost use Rattle.reference_parser.specs.ReadItems.{closed};
 ghost use Rattle.parse_state.specs.Standing.{At, Later};
 ghost use Rattle.parse_state.specs.Gives.{Gives, Reads, Expects, HoldsNothing};
 
 use crate::{Context, Failure, Parser};
-use ruby_sight::{Locals, Sight};
-use ruby_tree::{Name, Spot};
+use ruby_tree::{Name, SourcePosition};
+use token_lookahead::{Locals, Lookahead};
 
 /// What stood around a part that has locals of its own.
 #[derive(Drop)]
-pub struct Around {
+pub struct EnclosingBody {
     /// The locals there.
     pub locals: Locals,
     /// Whether it stands directly in a rescue clause.
@@ -27,13 +27,13 @@ pub struct Around {
 
 impl<'a> Parser<'a> {
     /// What the parser sees.
-    pub fn sight<'b>(&self, context: Context<'b>) -> Sight<'b>
+    pub fn lookahead<'b>(&self, context: Context<'b>) -> Lookahead<'b>
     where
         'a: 'b,
         ensures source { result.source.now ≡ context.entry.source.now }
         ensures rest { result.rest.now ≡ self.now.rest.now }
     {
-        Sight {
+        Lookahead {
             source: context.source,
             rest: self.rest,
         }
@@ -43,14 +43,14 @@ impl<'a> Parser<'a> {
     pub fn is_mark(&self, context: Context<'_>, mark: &str) -> bool
         ensures { (w : Toks) (s : Scope) → At self.now w s → result ≡ test.is_mark context.entry.source.now mark.now w }
     {
-        self.sight(context).is_mark(mark)
+        self.lookahead(context).is_mark(mark)
     }
 
     /// Whether the word stands here.
     pub fn is_word(&self, context: Context<'_>, word: &str) -> bool
         ensures { (w : Toks) (s : Scope) → At self.now w s → result ≡ test.is_word context.entry.source.now word.now w }
     {
-        self.sight(context).is_word(word)
+        self.lookahead(context).is_word(word)
     }
 
     /// Goes on by a token, where there is one.
@@ -91,7 +91,7 @@ impl<'a> Parser<'a> {
     pub fn expect_newline(&mut self, context: Context<'_>) -> Result<(), Failure>
         ensures expects { (w : Toks) (s : Scope) → At self.old w s → Expects self.old self.new (next w) s result (test.is_kind_newline (test.front w)) }
     {
-        if self.sight(context).is_newline() {
+        if self.lookahead(context).is_newline() {
             self.bump();
             return Ok(());
         }
@@ -120,7 +120,7 @@ impl<'a> Parser<'a> {
     pub fn word_name(&mut self, context: Context<'_>) -> Result<Name, Failure>
         ensures gives { (w : Toks) (s : Scope) → At self.old w s → Gives IsNamed self.old self.new result (taken (word context.entry.source.now w) w s) }
     {
-        let text = self.sight(context).word();
+        let text = self.lookahead(context).word();
         self.intern(context, text)
     }
 
@@ -137,7 +137,7 @@ impl<'a> Parser<'a> {
     pub fn declare(&mut self, context: Context<'_>) -> Result<(), Failure>
         ensures gives { (w : Toks) (s : Scope) → At self.old w s → Gives HoldsNothing self.old self.new result (taken tt w (declare (word context.entry.source.now w) s)) }
     {
-        let text = self.sight(context).word();
+        let text = self.lookahead(context).word();
         Ok(self.locals.declare(context.alloc, text)?)
     }
 
@@ -180,14 +180,14 @@ impl<'a> Parser<'a> {
     }
 
     /// Goes into a body that has locals of its own, and none at first.
-    pub fn enter_body(&mut self, context: Context<'_>) -> Around
+    pub fn enter_body(&mut self, context: Context<'_>) -> EnclosingBody
         ensures at { (w : Toks) (s : Scope) → At self.old w s → At self.new w fresh }
         ensures same { self.new.symbols ≡ self.old.symbols }
         ensures rest { self.new.rest.now ≡ self.old.rest.now }
         ensures locals { result.locals ≡ self.old.locals }
         ensures clause { result.in_clause ≡ self.old.in_clause }
     {
-        let around = Around {
+        let around = EnclosingBody {
             locals: std::mem::replace(&mut self.locals, Locals::new(context.alloc)),
             in_clause: self.in_clause,
         };
@@ -196,7 +196,7 @@ impl<'a> Parser<'a> {
     }
 
     /// Goes back to what stood around a body.
-    pub fn leave_body(&mut self, around: Around)
+    pub fn leave_body(&mut self, around: EnclosingBody)
         ensures at { (p : Parser) (w r : Toks) (s z : Scope) → At p w s → around.locals ≡ p.locals → around.in_clause ≡ p.in_clause → At self.old r z → At self.new r s }
         ensures later { (p : Parser) → around.locals ≡ p.locals → Extends p.symbols self.old.symbols → length self.old.rest.now ≤ length p.rest.now → Later p self.new }
     {
@@ -205,11 +205,11 @@ impl<'a> Parser<'a> {
     }
 }
 
-/// The spot of a node that begins at a spot, and whose name or operator stands at a sight.
-pub fn spot_with(here: Spot, operator: Sight<'_>) -> Spot
-    ensures { (o : Toks) → spot_of here ≡ test.spot o → spot_of result ≡ test.spot_with o (seen_all operator.entry.rest.now) }
+/// The position of a node that begins at a position, and whose name or operator stands at a lookahead.
+pub fn position_with(here: SourcePosition, operator: Lookahead<'_>) -> SourcePosition
+    ensures { (o : Toks) → position_of here ≡ test.position o → position_of result ≡ test.position_with o (seen_all operator.entry.rest.now) }
 {
-    Spot {
+    SourcePosition {
         first: here.first,
         line: operator.line_at(),
         place: here.place,

@@ -4,15 +4,15 @@ ghost use Rattle.ruby_lexer.specs.Bytes.{Bytes};
 ghost use Rattle.ruby_lexer.specs.Pieces.{Toks, seen_all};
 ghost use Rattle.ruby_tree.specs.Rules.{Scope, next, word, touches_next};
 ghost use Rattle.ruby_tree.specs.Rules as test;
-ghost use Rattle.ruby_parts.specs.Subtrees.{IsNamed};
-ghost use Rattle.list_reader.specs.Answers.{found};
-ghost use Rattle.list_reader.specs.Fronts.{is_newline, skip_newlines, then_at, loop_start_at, brackets_at, method_name_at, on_self_at, is_dot, begins_element, begins_pair, begins_item, more_elements, more_pairs, more_items, more_passed, calling_words, leaving_words, begins_command, begins_operator};
+ghost use Rattle.tree_builder.specs.Subtrees.{IsNamed};
+ghost use Rattle.reference_parser.specs.Answers.{found};
+ghost use Rattle.reference_parser.specs.Fronts.{is_newline, skip_newlines, then_at, loop_start_at, brackets_at, method_name_at, on_self_at, is_dot, begins_element, begins_pair, begins_item, more_elements, more_pairs, more_items, more_passed, calling_words, leaving_words, begins_command, begins_operator};
 ghost use Rattle.parse_state.specs.Standing.{At, Later};
 ghost use Rattle.parse_state.specs.Gives.{Finds, HoldsNothing, IsSame};
 
 use crate::{Context, Failure, Parser};
-use ruby_sight::Sight;
 use ruby_tree::Name;
+use token_lookahead::Lookahead;
 
 impl Parser<'_> {
     /// Goes on over newlines.
@@ -20,7 +20,7 @@ impl Parser<'_> {
         ensures at { (w : Toks) (s : Scope) → At self.old w s → At self.new (skip_newlines context.entry.source.now w) s }
         ensures later { Later self.old self.new }
     {
-        while self.sight(context).is_newline() {
+        while self.lookahead(context).is_newline() {
             self.bump();
         }
     }
@@ -29,7 +29,7 @@ impl Parser<'_> {
     pub fn skip_then(&mut self, context: Context<'_>) -> Result<(), Failure>
         ensures finds { (w : Toks) (s : Scope) → At self.old w s → Finds HoldsNothing self.old self.new s result (then_at context.entry.source.now w) }
     {
-        if self.sight(context).is_newline() {
+        if self.lookahead(context).is_newline() {
             self.bump();
             if self.is_word(context, "then") {
                 self.bump();
@@ -43,7 +43,7 @@ impl Parser<'_> {
     pub fn skip_loop_start(&mut self, context: Context<'_>) -> Result<(), Failure>
         ensures finds { (w : Toks) (s : Scope) → At self.old w s → Finds HoldsNothing self.old self.new s result (loop_start_at context.entry.source.now w) }
     {
-        if is_loop_start(self.sight(context)) {
+        if is_loop_start(self.lookahead(context)) {
             self.bump();
             return Ok(());
         }
@@ -66,17 +66,17 @@ impl Parser<'_> {
     pub fn method_name(&mut self, context: Context<'_>, defines: bool) -> Result<Name, Failure>
         ensures finds { (w : Toks) (s : Scope) → At self.old w s → Finds IsNamed self.old self.new s result (method_name_at context.entry.source.now defines w) }
     {
-        let sight = self.sight(context);
-        if sight.is_name() {
+        let lookahead = self.lookahead(context);
+        if lookahead.is_name() {
             return self.plain_name(context, defines);
         }
-        if sight.is_constant() {
+        if lookahead.is_constant() {
             return self.one_word(context);
         }
-        if sight.is_method_mark() {
+        if lookahead.is_method_mark() {
             return self.one_word(context);
         }
-        if is_brackets(sight) {
+        if is_brackets(lookahead) {
             return self.bracket_name(context);
         }
         Err(Failure::Syntax)
@@ -98,7 +98,7 @@ impl Parser<'_> {
         if !defines {
             return self.one_word(context);
         }
-        if is_set(self.sight(context)) {
+        if is_set(self.lookahead(context)) {
             return self.setter_name(context);
         }
         self.one_word(context)
@@ -108,7 +108,7 @@ impl Parser<'_> {
     fn setter_name(&mut self, context: Context<'_>) -> Result<Name, Failure>
         ensures finds { (w : Toks) (s : Scope) → At self.old w s → Finds IsNamed self.old self.new s result (found (word context.entry.source.now w ++ codes "=") (next (next w))) }
     {
-        let name = self.setter(context, self.sight(context).word())?;
+        let name = self.setter(context, self.lookahead(context).word())?;
         self.bump();
         self.bump();
         Ok(name)
@@ -119,7 +119,7 @@ impl Parser<'_> {
         ensures finds { (w : Toks) (s : Scope) → At self.old w s → Finds IsNamed self.old self.new s result (brackets_at context.entry.source.now w) }
     {
         self.bump();
-        if is_set(self.sight(context)) {
+        if is_set(self.lookahead(context)) {
             self.bump();
             self.bump();
             return self.intern(context, b"[]=");
@@ -132,123 +132,123 @@ impl Parser<'_> {
     pub fn is_dot(&self, context: Context<'_>) -> bool
         ensures { (w : Toks) (s : Scope) → At self.now w s → result ≡ is_dot context.entry.source.now w }
     {
-        let sight = self.sight(context);
-        sight.is_mark(".") || sight.is_mark("&.")
+        let lookahead = self.lookahead(context);
+        lookahead.is_mark(".") || lookahead.is_mark("&.")
     }
 
     /// Whether a comma stands here, and an element behind it.
     pub fn more_elements(&self, context: Context<'_>) -> bool
         ensures { (w : Toks) (s : Scope) → At self.now w s → result ≡ more_elements context.entry.source.now w }
     {
-        let sight = self.sight(context);
-        sight.is_mark(",") && begins_element(sight.next())
+        let lookahead = self.lookahead(context);
+        lookahead.is_mark(",") && begins_element(lookahead.next())
     }
 
     /// Whether a comma stands here, and a pair behind it.
     pub fn more_pairs(&self, context: Context<'_>) -> bool
         ensures { (w : Toks) (s : Scope) → At self.now w s → result ≡ more_pairs context.entry.source.now w }
     {
-        let sight = self.sight(context);
-        sight.is_mark(",") && begins_pair(sight.next())
+        let lookahead = self.lookahead(context);
+        lookahead.is_mark(",") && begins_pair(lookahead.next())
     }
 
     /// Whether a comma stands here, and an item of a call behind it.
     pub fn more_items(&self, context: Context<'_>) -> bool
         ensures { (w : Toks) (s : Scope) → At self.now w s → result ≡ more_items context.entry.source.now w }
     {
-        let sight = self.sight(context);
-        sight.is_mark(",") && begins_item(sight.next())
+        let lookahead = self.lookahead(context);
+        lookahead.is_mark(",") && begins_item(lookahead.next())
     }
 
     /// Whether a comma stands here, and behind it what is passed behind `&`.
     pub fn more_passed(&self, context: Context<'_>) -> bool
         ensures { (w : Toks) (s : Scope) → At self.now w s → result ≡ more_passed context.entry.source.now w }
     {
-        let sight = self.sight(context);
-        sight.is_mark(",") && sight.next().is_mark("&")
+        let lookahead = self.lookahead(context);
+        lookahead.is_mark(",") && lookahead.next().is_mark("&")
     }
 
     /// Whether the name here is a command.
     pub fn is_command(&self, context: Context<'_>) -> bool
         ensures { (w : Toks) (s : Scope) → At self.now w s → result ≡ test.is_command context.entry.source.now s (word context.entry.source.now w) (next w) }
     {
-        let sight = self.sight(context);
-        !self.locals.contains(sight.word()) && sight.next().begins_arguments()
+        let lookahead = self.lookahead(context);
+        !self.locals.contains(lookahead.word()) && lookahead.next().begins_arguments()
     }
 
     /// Whether a command begins here, but for one behind a dot.
     pub fn begins_command(&self, context: Context<'_>) -> bool
         ensures { (w : Toks) (s : Scope) → At self.now w s → result ≡ begins_command context.entry.source.now s w }
     {
-        let sight = self.sight(context);
-        (sight.is_name() && self.is_command(context))
-            || (is_calling(sight) && sight.next().begins_arguments())
-            || is_leaving(sight)
+        let lookahead = self.lookahead(context);
+        (lookahead.is_name() && self.is_command(context))
+            || (is_calling(lookahead) && lookahead.next().begins_arguments())
+            || is_leaving(lookahead)
     }
 
     /// Whether an operator stands before an operand here.
     pub fn begins_operator(&self, context: Context<'_>) -> bool
         ensures { (w : Toks) (s : Scope) → At self.now w s → result ≡ begins_operator context.entry.source.now w }
     {
-        let sight = self.sight(context);
-        sight.is_mark("!")
-            || sight.is_mark("~")
-            || sight.is_mark("+")
-            || (sight.is_mark("-") && !sight.is_negative())
+        let lookahead = self.lookahead(context);
+        lookahead.is_mark("!")
+            || lookahead.is_mark("~")
+            || lookahead.is_mark("+")
+            || (lookahead.is_mark("-") && !lookahead.is_negative())
     }
 }
 
 // `yield` or `super`
-fn is_calling(sight: Sight<'_>) -> bool
-    ensures { result ≡ test.word_in sight.entry.source.now (calling_words sight.entry.source.now) (seen_all sight.entry.rest.now) }
+fn is_calling(lookahead: Lookahead<'_>) -> bool
+    ensures { result ≡ test.word_in lookahead.entry.source.now (calling_words lookahead.entry.source.now) (seen_all lookahead.entry.rest.now) }
 {
-    sight.is_word("yield") || sight.is_word("super")
+    lookahead.is_word("yield") || lookahead.is_word("super")
 }
 
 // `return`, `break` or `next`
-fn is_leaving(sight: Sight<'_>) -> bool
-    ensures { result ≡ test.word_in sight.entry.source.now (leaving_words sight.entry.source.now) (seen_all sight.entry.rest.now) }
+fn is_leaving(lookahead: Lookahead<'_>) -> bool
+    ensures { result ≡ test.word_in lookahead.entry.source.now (leaving_words lookahead.entry.source.now) (seen_all lookahead.entry.rest.now) }
 {
-    sight.is_word("return") || sight.is_word("break") || sight.is_word("next")
+    lookahead.is_word("return") || lookahead.is_word("break") || lookahead.is_word("next")
 }
 
 // an element, which may be spread
-fn begins_element(sight: Sight<'_>) -> bool
-    ensures { result ≡ begins_element sight.entry.source.now (seen_all sight.entry.rest.now) }
+fn begins_element(lookahead: Lookahead<'_>) -> bool
+    ensures { result ≡ begins_element lookahead.entry.source.now (seen_all lookahead.entry.rest.now) }
 {
-    sight.begins_arg() || sight.is_mark("*")
+    lookahead.begins_arg() || lookahead.is_mark("*")
 }
 
-fn begins_pair(sight: Sight<'_>) -> bool
-    ensures { result ≡ begins_pair sight.entry.source.now (seen_all sight.entry.rest.now) }
+fn begins_pair(lookahead: Lookahead<'_>) -> bool
+    ensures { result ≡ begins_pair lookahead.entry.source.now (seen_all lookahead.entry.rest.now) }
 {
-    sight.begins_arg() || sight.is_label()
+    lookahead.begins_arg() || lookahead.is_label()
 }
 
 // an item of a call
-fn begins_item(sight: Sight<'_>) -> bool
-    ensures { result ≡ begins_item sight.entry.source.now (seen_all sight.entry.rest.now) }
+fn begins_item(lookahead: Lookahead<'_>) -> bool
+    ensures { result ≡ begins_item lookahead.entry.source.now (seen_all lookahead.entry.rest.now) }
 {
-    begins_element(sight) || sight.is_label() || sight.is_mark("&")
+    begins_element(lookahead) || lookahead.is_label() || lookahead.is_mark("&")
 }
 
 // a newline or `do`
-fn is_loop_start(sight: Sight<'_>) -> bool
-    ensures { result ≡ (is_newline (seen_all sight.entry.rest.now) || test.is_word sight.entry.source.now (codes "do") (seen_all sight.entry.rest.now)) }
+fn is_loop_start(lookahead: Lookahead<'_>) -> bool
+    ensures { result ≡ (is_newline (seen_all lookahead.entry.rest.now) || test.is_word lookahead.entry.source.now (codes "do") (seen_all lookahead.entry.rest.now)) }
 {
-    sight.is_newline() || sight.is_word("do")
+    lookahead.is_newline() || lookahead.is_word("do")
 }
 
 // `[` and `]` directly behind it
-fn is_brackets(sight: Sight<'_>) -> bool
-    ensures { result ≡ (test.is_mark sight.entry.source.now (codes "[") (seen_all sight.entry.rest.now) && (test.is_mark sight.entry.source.now (codes "]") (next (seen_all sight.entry.rest.now)) && touches_next (seen_all sight.entry.rest.now))) }
+fn is_brackets(lookahead: Lookahead<'_>) -> bool
+    ensures { result ≡ (test.is_mark lookahead.entry.source.now (codes "[") (seen_all lookahead.entry.rest.now) && (test.is_mark lookahead.entry.source.now (codes "]") (next (seen_all lookahead.entry.rest.now)) && touches_next (seen_all lookahead.entry.rest.now))) }
 {
-    sight.is_mark("[") && sight.next().is_mark("]") && sight.touches_next()
+    lookahead.is_mark("[") && lookahead.next().is_mark("]") && lookahead.touches_next()
 }
 
 // whether `=` stands directly behind the first token
-fn is_set(sight: Sight<'_>) -> bool
-    ensures { result ≡ (test.is_mark sight.entry.source.now (codes "=") (next (seen_all sight.entry.rest.now)) && touches_next (seen_all sight.entry.rest.now)) }
+fn is_set(lookahead: Lookahead<'_>) -> bool
+    ensures { result ≡ (test.is_mark lookahead.entry.source.now (codes "=") (next (seen_all lookahead.entry.rest.now)) && touches_next (seen_all lookahead.entry.rest.now)) }
 {
-    sight.next().is_mark("=") && sight.touches_next()
+    lookahead.next().is_mark("=") && lookahead.touches_next()
 }

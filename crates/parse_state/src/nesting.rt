@@ -1,17 +1,17 @@
 //! What one symbol of the grammar asks of another that nests in it.
 ghost use Rattle.std.specs.Prelude.{◌≡◌, List, ℕ};
-ghost use Rattle.ruby_sight.specs.Sights.{do_of};
-ghost use Rattle.ruby_parts.specs.Subtrees.{Holds, HoldsOther};
-ghost use Rattle.list_reader.specs.ReadItems.{Readers};
+ghost use Rattle.token_lookahead.specs.Lookaheads.{do_owner_of};
+ghost use Rattle.tree_builder.specs.Subtrees.{Holds, HoldsOther};
+ghost use Rattle.reference_parser.specs.ReadItems.{Readers};
 ghost use Rattle.parse_state.specs.Gives.{Reads};
 
 use crate::{Context, Failure, Parser};
-use ruby_parts::{OtherSubtree, Subtree};
-use ruby_sight::Do;
+use token_lookahead::DoBlockOwner;
+use tree_builder::{ElseSubtree, Subtree};
 
 /// The symbols that nest.
 #[derive(Clone, Copy, Debug, PartialEq, Eq, Drop)]
-pub enum Symbol {
+pub enum NestedSymbol {
     /// Statements.
     Statements,
     /// An expression.
@@ -19,7 +19,7 @@ pub enum Symbol {
     /// A test, which may begin with `not`.
     Test,
     /// An argument or a command.
-    Whole,
+    AssignedValue,
     /// An argument.
     Argument,
     /// What stands behind a unary minus.
@@ -27,9 +27,9 @@ pub enum Symbol {
     /// What stands behind `**`.
     Power,
     /// What stands behind `!`, `~` and a unary plus.
-    Tight,
+    UnaryOperand,
     /// `elsif` and `else`, up to `end`.
-    Elses,
+    ElseBranches,
 }
 
 /// The readers of the symbols that nest in one that is read. Each is told whose a `do` is that stands behind a call.
@@ -45,88 +45,88 @@ pub trait Nested {
         &self,
         context: Context<'_>,
         parser: &mut Parser<'_>,
-        takes: Do,
+        do_owner: DoBlockOwner,
     ) -> Result<Subtree, Failure>
         requires { IsReady self.now }
-        ensures reads { Reads Holds parser.old parser.new result ((readers self.now context.entry.source.now).stmts (do_of takes)) };
+        ensures reads { Reads Holds parser.old parser.new result ((readers self.now context.entry.source.now).stmts (do_owner_of do_owner)) };
 
     /// An expression.
     fn expression(
         &self,
         context: Context<'_>,
         parser: &mut Parser<'_>,
-        takes: Do,
+        do_owner: DoBlockOwner,
     ) -> Result<Subtree, Failure>
         requires { IsReady self.now }
-        ensures reads { Reads Holds parser.old parser.new result ((readers self.now context.entry.source.now).expr (do_of takes)) };
+        ensures reads { Reads Holds parser.old parser.new result ((readers self.now context.entry.source.now).expr (do_owner_of do_owner)) };
 
     /// A test.
     fn test(
         &self,
         context: Context<'_>,
         parser: &mut Parser<'_>,
-        takes: Do,
+        do_owner: DoBlockOwner,
     ) -> Result<Subtree, Failure>
         requires { IsReady self.now }
-        ensures reads { Reads Holds parser.old parser.new result ((readers self.now context.entry.source.now).test (do_of takes)) };
+        ensures reads { Reads Holds parser.old parser.new result ((readers self.now context.entry.source.now).test (do_owner_of do_owner)) };
 
     /// An argument or a command.
-    fn whole(
+    fn assigned_value(
         &self,
         context: Context<'_>,
         parser: &mut Parser<'_>,
-        takes: Do,
+        do_owner: DoBlockOwner,
     ) -> Result<Subtree, Failure>
         requires { IsReady self.now }
-        ensures reads { Reads Holds parser.old parser.new result ((readers self.now context.entry.source.now).whole (do_of takes)) };
+        ensures reads { Reads Holds parser.old parser.new result ((readers self.now context.entry.source.now).assigned_value (do_owner_of do_owner)) };
 
     /// An argument.
     fn argument(
         &self,
         context: Context<'_>,
         parser: &mut Parser<'_>,
-        takes: Do,
+        do_owner: DoBlockOwner,
     ) -> Result<Subtree, Failure>
         requires { IsReady self.now }
-        ensures reads { Reads Holds parser.old parser.new result ((readers self.now context.entry.source.now).arg (do_of takes)) };
+        ensures reads { Reads Holds parser.old parser.new result ((readers self.now context.entry.source.now).arg (do_owner_of do_owner)) };
 
     /// What stands behind a unary minus.
     fn minus(
         &self,
         context: Context<'_>,
         parser: &mut Parser<'_>,
-        takes: Do,
+        do_owner: DoBlockOwner,
     ) -> Result<Subtree, Failure>
         requires { IsReady self.now }
-        ensures reads { Reads Holds parser.old parser.new result ((readers self.now context.entry.source.now).minus (do_of takes)) };
+        ensures reads { Reads Holds parser.old parser.new result ((readers self.now context.entry.source.now).minus (do_owner_of do_owner)) };
 
     /// What stands behind `**`.
     fn power(
         &self,
         context: Context<'_>,
         parser: &mut Parser<'_>,
-        takes: Do,
+        do_owner: DoBlockOwner,
     ) -> Result<Subtree, Failure>
         requires { IsReady self.now }
-        ensures reads { Reads Holds parser.old parser.new result ((readers self.now context.entry.source.now).power (do_of takes)) };
+        ensures reads { Reads Holds parser.old parser.new result ((readers self.now context.entry.source.now).power (do_owner_of do_owner)) };
 
     /// What stands behind `!`, `~` and a unary plus.
-    fn tight(
+    fn unary_operand(
         &self,
         context: Context<'_>,
         parser: &mut Parser<'_>,
-        takes: Do,
+        do_owner: DoBlockOwner,
     ) -> Result<Subtree, Failure>
         requires { IsReady self.now }
-        ensures reads { Reads Holds parser.old parser.new result ((readers self.now context.entry.source.now).tight (do_of takes)) };
+        ensures reads { Reads Holds parser.old parser.new result ((readers self.now context.entry.source.now).unary_operand (do_owner_of do_owner)) };
 
     /// `elsif` and `else`, up to `end`.
-    fn elses(
+    fn else_branches(
         &self,
         context: Context<'_>,
         parser: &mut Parser<'_>,
-        takes: Do,
-    ) -> Result<OtherSubtree, Failure>
+        do_owner: DoBlockOwner,
+    ) -> Result<ElseSubtree, Failure>
         requires { IsReady self.now }
-        ensures reads { Reads HoldsOther parser.old parser.new result ((readers self.now context.entry.source.now).elses (do_of takes)) };
+        ensures reads { Reads HoldsOther parser.old parser.new result ((readers self.now context.entry.source.now).else_branches (do_owner_of do_owner)) };
 }

@@ -1,8 +1,8 @@
 //! Where a parser stands.
 use ruby_lexer::Token;
-use ruby_sight::Locals;
 use ruby_tree::SymbolTable;
 use std::alloc::Global;
+use token_lookahead::Locals;
 
 /// The text whose tokens are read, and where memory is asked for.
 #[derive(Clone, Copy, Drop)]

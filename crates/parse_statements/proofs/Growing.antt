@@ -4,13 +4,13 @@ use Rattle.ruby_lexer.specs.Pieces.{Toks}
 use Rattle.ruby_tree.specs.Names.{Texts}
 use Rattle.ruby_tree.specs.Rules.{Scope}
 use Rattle.ruby_tree.specs.FaultLine.{count_of}
-use Rattle.list_reader.specs.Answers.{Answer, taken, fault, deep, Parse, ◌>>=◌}
+use Rattle.reference_parser.specs.Answers.{Answer, taken, fault, deep, Parse, ◌>>=◌}
 use Rattle.parse_state.specs.declared.failures.Failure.{Failure}
 use Rattle.parse_state.specs.declared.standing.Parser.{Parser}
 use Rattle.parse_state.specs.Standing.{At, Later}
 use Rattle.parse_state.specs.Gives.{Gives, gave}
 use Rattle.parse_state.proofs.Steps.{later_same, later_then, from, named, failed}
-use Rattle.parse_items.proofs.Turning.{counted}
+use Rattle.parse_parts.proofs.Turning.{counted}
 
 -- a part that is made into another one, and then what is read behind it
 pub into : {A B C : Type 0} (x : Answer A) (f : A → B) (k : Scope → Scope) (g : B → Parse C) → ((x >>= λ a r z. taken (f a) r (k z)) >>= g) ≡ (x >>= λ a r z. g (f a) r (k z))

@@ -4,26 +4,26 @@ use Rattle.ruby_lexer.specs.declared.token.Token.{Token}
 use Rattle.ruby_lexer.specs.Bytes.{Bytes}
 use Rattle.ruby_lexer.specs.Pieces.{Toks, seen_all}
 use Rattle.ruby_tree.specs.Names.{Texts}
-use Rattle.ruby_tree.specs.Tree.{Spot, Tree, at, Form, statements, while_loop, without, Trees, no_more, more, trees_then}
+use Rattle.ruby_tree.specs.Tree.{SourcePosition, Tree, at, Form, statements, while_loop, without, Trees, no_more, more, trees_then}
 use Rattle.ruby_tree.specs.Depth.{depth}
 use Rattle.ruby_tree.specs.Build.{one, alone, or_empty}
-use Rattle.ruby_tree.specs.Rules.{Scope, Do, next, spot, nowhere, is_word, in_clause, behind, loops, begins_statement}
+use Rattle.ruby_tree.specs.Rules.{Scope, DoBlockOwner, next, position, nowhere, is_word, in_clause, behind, loops, begins_statement}
 use Rattle.ruby_tree.specs.FaultLine.{count_of}
-use Rattle.ruby_parts.specs.declared.Subtree.{Subtree}
-use Rattle.ruby_parts.specs.Subtrees.{IsNode, Holds}
-use Rattle.list_reader.specs.Answers.{Answer, taken, Parse, ◌>>=◌}
-use Rattle.list_reader.specs.Fronts.{is_newline}
-use Rattle.list_reader.specs.ReadItems.{Readers}
-use Rattle.list_reader.specs.ReadStatements.{statements_at, tests, modifiers_from, read_stmt, stmt_list, read_stmts}
+use Rattle.tree_builder.specs.declared.Subtree.{Subtree}
+use Rattle.tree_builder.specs.Subtrees.{IsNode, Holds}
+use Rattle.reference_parser.specs.Answers.{Answer, taken, Parse, ◌>>=◌}
+use Rattle.reference_parser.specs.Fronts.{is_newline}
+use Rattle.reference_parser.specs.ReadItems.{Readers}
+use Rattle.reference_parser.specs.ReadStatements.{statements_at, tests, modifiers_from, read_stmt, stmt_list, read_stmts}
 use Rattle.parse_state.specs.declared.failures.Failure.{Failure}
 use Rattle.parse_state.specs.declared.standing.Parser.{Parser}
 use Rattle.parse_state.specs.Standing.{At}
 use Rattle.parse_state.specs.Gives.{Gives}
 use Rattle.parse_state.proofs.Newlines.{newline_less}
-use Rattle.parse_items.proofs.Parts.{spot_held}
-use Rattle.parse_items.proofs.Gathering.{then_taken, then_itself, if_then, both_same, gathers, trees_join, trees_end}
-use Rattle.parse_statements.specs.declared.logic.Joining.{Joining}
-use Rattle.parse_statements.specs.declared.logic.Joining.TheVariants as joining
+use Rattle.parse_parts.proofs.Parts.{spot_held}
+use Rattle.parse_parts.proofs.Gathering.{then_taken, then_itself, if_then, both_same, gathers, trees_join, trees_end}
+use Rattle.parse_statements.specs.declared.logic.LogicalOperator.{LogicalOperator}
+use Rattle.parse_statements.specs.declared.logic.LogicalOperator.TheVariants as joining
 use Rattle.parse_statements.specs.declared.modifiers.Modifier.{Modifier}
 use Rattle.parse_statements.specs.declared.modifiers.Modifier.TheVariants as modifier
 use Rattle.parse_statements.specs.Statements.{joined_by, modified_by, condition_of, one_joining, one_modifier, joining_at, modifier_at, gathered_turn, statement_turn}
@@ -46,23 +46,23 @@ module _ {A : Type 0} {c : Bool} where
   is_no {z} {y} x is same = same ∙ sym (ap (λ (b : Bool). if b then x else y) is)
 
 -- the tree of tests that are joined, and of a statement with a modifier, by what is made
-pub joined_as : {E : Type 0} (T : Texts) (r : Result Subtree E) (j k : Joining) (o v : Toks) (a b : Tree) → k ≡ j → IfOk r (λ part. Holds T part (joined_by j o v a b)) → IfOk r (λ part. Holds T part (joined_by k o v a b))
-joined_as T r j k o v a b is h = subst (λ (i : Joining). IfOk r (λ part. Holds T part (joined_by i o v a b))) (sym is) h
+pub joined_as : {E : Type 0} (T : Texts) (r : Result Subtree E) (j k : LogicalOperator) (o v : Toks) (a b : Tree) → k ≡ j → IfOk r (λ part. Holds T part (joined_by j o v a b)) → IfOk r (λ part. Holds T part (joined_by k o v a b))
+joined_as T r j k o v a b is h = subst (λ (i : LogicalOperator). IfOk r (λ part. Holds T part (joined_by i o v a b))) (sym is) h
 
 pub modified_as : {E : Type 0} (T : Texts) (r : Result Subtree E) (j k : Modifier) (o v : Toks) (b : Bool) (a c : Tree) → k ≡ j → IfOk r (λ part. Holds T part (modified_by j o v b a c)) → IfOk r (λ part. Holds T part (modified_by k o v b a c))
 modified_as T r j k o v b a c is h = subst (λ (i : Modifier). IfOk r (λ part. Holds T part (modified_by i o v b a c))) (sym is) h
 
 -- what stands behind the word of a modifier, by the modifier
-pub condition_as : {p q : Parser} {result : Result Subtree Failure} (Q : Readers) (d : Do) (w : Toks) (s : Scope) {j k : Modifier} → k ≡ j → Gives Holds p q result (condition_of Q j d w s) → Gives Holds p q result (condition_of Q k d w s)
+pub condition_as : {p q : Parser} {result : Result Subtree Failure} (Q : Readers) (d : DoBlockOwner) (w : Toks) (s : Scope) {j k : Modifier} → k ≡ j → Gives Holds p q result (condition_of Q j d w s) → Gives Holds p q result (condition_of Q k d w s)
 condition_as {p} {q} {result} Q d w s is g = subst (λ (i : Modifier). Gives Holds p q result (condition_of Q i d w s)) (sym is) g
 
--- a tree at its spot, of a result
-pub ok_at : {E : Type 0} (T : Texts) (r : Result Subtree E) (u o : Spot) (f : Form) → u ≡ o → IfOk r (λ part. Holds T part (at u f)) → IfOk r (λ part. Holds T part (at o f))
-ok_at T r u o f is h = subst (λ (x : Spot). IfOk r (λ part. Holds T part (at x f))) is h
+-- a tree at its position, of a result
+pub ok_at : {E : Type 0} (T : Texts) (r : Result Subtree E) (u o : SourcePosition) (f : Form) → u ≡ o → IfOk r (λ part. Holds T part (at u f)) → IfOk r (λ part. Holds T part (at o f))
+ok_at T r u o f is h = subst (λ (x : SourcePosition). IfOk r (λ part. Holds T part (at x f))) is h
 
 -- neither joins anything where no token is left
 module _ (source : Bytes) where
-  pub joining_some : (ts : List Token) (j : Joining) → joining_at source (seen_all ts) ≡ Some j → 0 < length ts
+  pub joining_some : (ts : List Token) (j : LogicalOperator) → joining_at source (seen_all ts) ≡ Some j → 0 < length ts
   joining_some [] j is = absurd cc
   joining_some (t ∷ ts) j is = omega arith
 
@@ -70,14 +70,14 @@ module _ (source : Bytes) where
   modifier_some [] k is = absurd cc
   modifier_some (t ∷ ts) k is = omega arith
 
-module _ (source : Bytes) (Q : Readers) (d : Do) (o : Toks) (m : ℕ) where
-  joins_more : (x y : Bool) (j : Joining) (a : Tree) (w : Toks) (s : Scope) → (if x then Some joining.And else if y then Some joining.Or else None) ≡ Some j →
+module _ (source : Bytes) (Q : Readers) (d : DoBlockOwner) (o : Toks) (m : ℕ) where
+  joins_more : (x y : Bool) (j : LogicalOperator) (a : Tree) (w : Toks) (s : Scope) → (if x then Some joining.And else if y then Some joining.Or else None) ≡ Some j →
       (if x then (Q.test d (next w) s >>= λ b q y. tests source Q m d o (joined_by joining.And o w a b) q y)
       else if y then (Q.test d (next w) s >>= λ b q y. tests source Q m d o (joined_by joining.Or o w a b) q y)
       else taken a w s)
       ≡ (one_joining Q j d o a w s >>= λ b r z. tests source Q m d o b r z)
-  joins_more true y j a w s is = sym (into (Q.test d (next w) s) (λ b. joined_by joining.And o w a b) (λ z. z) (λ b r z. tests source Q m d o b r z)) ∙ ap (λ (i : Joining). one_joining Q i d o a w s >>= λ b r z. tests source Q m d o b r z) (some_same is)
-  joins_more false true j a w s is = sym (into (Q.test d (next w) s) (λ b. joined_by joining.Or o w a b) (λ z. z) (λ b r z. tests source Q m d o b r z)) ∙ ap (λ (i : Joining). one_joining Q i d o a w s >>= λ b r z. tests source Q m d o b r z) (some_same is)
+  joins_more true y j a w s is = sym (into (Q.test d (next w) s) (λ b. joined_by joining.And o w a b) (λ z. z) (λ b r z. tests source Q m d o b r z)) ∙ ap (λ (i : LogicalOperator). one_joining Q i d o a w s >>= λ b r z. tests source Q m d o b r z) (some_same is)
+  joins_more false true j a w s is = sym (into (Q.test d (next w) s) (λ b. joined_by joining.Or o w a b) (λ z. z) (λ b r z. tests source Q m d o b r z)) ∙ ap (λ (i : LogicalOperator). one_joining Q i d o a w s >>= λ b r z. tests source Q m d o b r z) (some_same is)
   joins_more false false j a w s is = absurd cc
 
   joins_none : (x y : Bool) (A B C : Answer Tree) → (if x then Some joining.And else if y then Some joining.Or else None) ≡ None → (if x then A else if y then B else C) ≡ C
@@ -85,7 +85,7 @@ module _ (source : Bytes) (Q : Readers) (d : Do) (o : Toks) (m : ℕ) where
   joins_none false true A B C is = absurd cc
   joins_none false false A B C is = refl
 
-  pub tests_more : (j : Joining) (a : Tree) (w : Toks) (s : Scope) → joining_at source w ≡ Some j → tests source Q (suc m) d o a w s ≡ (one_joining Q j d o a w s >>= λ b r z. tests source Q m d o b r z)
+  pub tests_more : (j : LogicalOperator) (a : Tree) (w : Toks) (s : Scope) → joining_at source w ≡ Some j → tests source Q (suc m) d o a w s ≡ (one_joining Q j d o a w s >>= λ b r z. tests source Q m d o b r z)
   unfolding tests
   tests_more j a w s is = joins_more (is_word source (codes "and") w) (is_word source (codes "or") w) j a w s is
 
@@ -126,7 +126,7 @@ unchosen false false false true r a b c d e f is = absurd cc
 unchosen false false false false true a b c d e f is = absurd cc
 unchosen false false false false false a b c d e f is = refl
 
-module _ (source : Bytes) (Q : Readers) (d : Do) (o : Toks) (m : ℕ) where
+module _ (source : Bytes) (Q : Readers) (d : DoBlockOwner) (o : Toks) (m : ℕ) where
   modifier_turn : (k : Modifier) (b : Bool) (a : Tree) (w : Toks) (s : Scope) →
       picked k
       (Q.expr d (next w) s >>= λ c q y. modifiers_from source Q m d o false (modified_by modifier.If o w b a c) q y)
@@ -173,17 +173,17 @@ pub record HoldsTold (T : Texts) (x : Bool × Subtree) (t : Bool × Tree) : Type
   pub told : depth t.1 ≤ 200 → x.0 ≡ t.0
 
 -- a body that is no deeper than a loop over it
-kept : (o : Toks) (a c : Tree) (u b : Bool) → depth (at (spot o) (while_loop (alone o a) c u b)) ≤ 200 → depth a ≤ 200
+kept : (o : Toks) (a c : Tree) (u b : Bool) → depth (at (position o) (while_loop (alone o a) c u b)) ≤ 200 → depth a ≤ 200
 kept o a c u b small = omega arith
 
 -- the flag of a loop over a body that is kept
-pub looped_as : (T : Texts) (x : Subtree) (o : Toks) (a c : Tree) (b e u : Bool) → (depth a ≤ 200 → b ≡ e) → Holds T x (at (spot o) (while_loop (alone o a) c u b)) → Holds T x (at (spot o) (while_loop (alone o a) c u e))
+pub looped_as : (T : Texts) (x : Subtree) (o : Toks) (a c : Tree) (b e u : Bool) → (depth a ≤ 200 → b ≡ e) → Holds T x (at (position o) (while_loop (alone o a) c u b)) → Holds T x (at (position o) (while_loop (alone o a) c u e))
 looped_as T x o a c b e u told h = record {
   shows = h.shows;
-  reads = λ small U on. subst (λ (f : Bool). IsNode U x.node (at (spot o) (while_loop (alone o a) c u f))) (told (kept o a c u e small)) (h.reads small U on);
+  reads = λ small U on. subst (λ (f : Bool). IsNode U x.node (at (position o) (while_loop (alone o a) c u f))) (told (kept o a c u e small)) (h.reads small U on);
 }
 
-pub looped_ok : {E : Type 0} (T : Texts) (r : Result Subtree E) (o : Toks) (a c : Tree) (b e u : Bool) → (depth a ≤ 200 → b ≡ e) → IfOk r (λ part. Holds T part (at (spot o) (while_loop (alone o a) c u b))) → IfOk r (λ part. Holds T part (at (spot o) (while_loop (alone o a) c u e)))
+pub looped_ok : {E : Type 0} (T : Texts) (r : Result Subtree E) (o : Toks) (a c : Tree) (b e u : Bool) → (depth a ≤ 200 → b ≡ e) → IfOk r (λ part. Holds T part (at (position o) (while_loop (alone o a) c u b))) → IfOk r (λ part. Holds T part (at (position o) (while_loop (alone o a) c u e)))
 looped_ok T (Ok x) o a c b e u told h = looped_as T x o a c b e u told h
 looped_ok T (Err f) o a c b e u told h = tt
 
@@ -192,7 +192,7 @@ neither true y A B C is = absurd cc
 neither false true A B C is = absurd cc
 neither false false A B C is = refl
 
-module _ (source : Bytes) (Q : Readers) (d : Do) where
+module _ (source : Bytes) (Q : Readers) (d : DoBlockOwner) where
   -- what the turns that are left make, behind the statements that were gathered
   abbrev pub statements_rest : ℕ → Trees → Parse Trees
   statements_rest m ts w s = stmt_list source Q m d w s >>= λ us r z. taken (trees_then ts us) r z
@@ -227,11 +227,11 @@ module _ (source : Bytes) (Q : Readers) (d : Do) where
   statements_empty w s is =
       ap (λ (x : Answer Trees). x >>= λ ts r z. taken (statements_at source w ts) r z) (statements_none (count_of w) w s is)
       ∙ then_taken no_more w s (λ ts r z. taken (statements_at source w ts) r z)
-      ∙ ap (λ (b : Bool). taken (if b then at (spot w) (statements no_more) else at nowhere (statements no_more)) w s) is
+      ∙ ap (λ (b : Bool). taken (if b then at (position w) (statements no_more) else at nowhere (statements no_more)) w s) is
 
 -- the node of statements, where they begin
-pub statements_begun : (source : Bytes) (w : Toks) {T : Texts} {x : Subtree} {u : Spot} {ts : Trees} → (is_newline w || begins_statement source w) ≡ true → u ≡ spot w → Holds T x (at u (statements ts)) → Holds T x (statements_at source w ts)
-statements_begun source w {T} {x} {u} {ts} is here h = subst (λ (b : Bool). Holds T x (if b then at (spot w) (statements ts) else at nowhere (statements no_more))) (sym is) (spot_held here h)
+pub statements_begun : (source : Bytes) (w : Toks) {T : Texts} {x : Subtree} {u : SourcePosition} {ts : Trees} → (is_newline w || begins_statement source w) ≡ true → u ≡ position w → Holds T x (at u (statements ts)) → Holds T x (statements_at source w ts)
+statements_begun source w {T} {x} {u} {ts} is here h = subst (λ (b : Bool). Holds T x (if b then at (position w) (statements ts) else at nowhere (statements no_more))) (sym is) (spot_held here h)
 
 -- a newline is one token less
 pub bumped_newline : {p : Parser} {w : Toks} {s : Scope} {n : ℕ} → At p w s → is_newline w ≡ true → n ≡ length p.rest.now - 1 → n < length p.rest.now

@@ -2,28 +2,28 @@
 use Rattle.std.specs.Prelude.{false, if◌then◌else◌}
 use Rattle.ruby_lexer.specs.Bytes.{Bytes}
 use Rattle.ruby_tree.specs.Tree.{Tree, at, send, yield, super, return_with, break_with, next_with, without}
-use Rattle.ruby_tree.specs.Rules.{Do, next, spot, word}
+use Rattle.ruby_tree.specs.Rules.{DoBlockOwner, next, position, word}
 use Rattle.ruby_tree.specs.Build.{has_block}
-use Rattle.list_reader.specs.Answers.{taken, fault, Parse, ◌>>=◌}
-use Rattle.list_reader.specs.ReadItems.{Readers, command_items}
-use Rattle.list_reader.specs.ReadBodies.{command_block}
-use Rattle.list_reader.specs.ReadStatements.{read_values}
+use Rattle.reference_parser.specs.Answers.{taken, fault, Parse, ◌>>=◌}
+use Rattle.reference_parser.specs.ReadItems.{Readers, command_items}
+use Rattle.reference_parser.specs.ReadBodies.{command_block}
+use Rattle.reference_parser.specs.ReadStatements.{read_values}
 
 module _ (source : Bytes) (Q : Readers) where
-  abbrev pub named_command : Do → Parse Tree
-  named_command d w s = command_items source Q d (next w) s >>= λ g q y. command_block source Q d g q y >>= λ b r z. taken (at (spot w) (send without g.trees g.spread g.value (word source w) false b)) r z
+  abbrev pub named_command : DoBlockOwner → Parse Tree
+  named_command d w s = command_items source Q d (next w) s >>= λ g q y. command_block source Q d g q y >>= λ b r z. taken (at (position w) (send without g.trees g.spread g.value (word source w) false b)) r z
 
-  abbrev pub yield_command : Do → Parse Tree
-  yield_command d w s = command_items source Q d (next w) s >>= λ g r z. if has_block g then fault else taken (at (spot w) (yield g.trees g.spread)) r z
+  abbrev pub yield_command : DoBlockOwner → Parse Tree
+  yield_command d w s = command_items source Q d (next w) s >>= λ g r z. if has_block g then fault else taken (at (position w) (yield g.trees g.spread)) r z
 
-  abbrev pub super_command : Do → Parse Tree
-  super_command d w s = command_items source Q d (next w) s >>= λ g q y. command_block source Q d g q y >>= λ b r z. taken (at (spot w) (super g.trees g.spread g.value b)) r z
+  abbrev pub super_command : DoBlockOwner → Parse Tree
+  super_command d w s = command_items source Q d (next w) s >>= λ g q y. command_block source Q d g q y >>= λ b r z. taken (at (position w) (super g.trees g.spread g.value b)) r z
 
-  abbrev pub return_command : Do → Parse Tree
-  return_command d w s = read_values source Q d (next w) s >>= λ ts r z. taken (at (spot w) (return_with ts)) r z
+  abbrev pub return_command : DoBlockOwner → Parse Tree
+  return_command d w s = read_values source Q d (next w) s >>= λ ts r z. taken (at (position w) (return_with ts)) r z
 
-  abbrev pub break_command : Do → Parse Tree
-  break_command d w s = read_values source Q d (next w) s >>= λ ts r z. taken (at (spot w) (break_with ts)) r z
+  abbrev pub break_command : DoBlockOwner → Parse Tree
+  break_command d w s = read_values source Q d (next w) s >>= λ ts r z. taken (at (position w) (break_with ts)) r z
 
-  abbrev pub next_command : Do → Parse Tree
-  next_command d w s = read_values source Q d (next w) s >>= λ ts r z. taken (at (spot w) (next_with ts)) r z
+  abbrev pub next_command : DoBlockOwner → Parse Tree
+  next_command d w s = read_values source Q d (next w) s >>= λ ts r z. taken (at (position w) (next_with ts)) r z

@@ -3,41 +3,41 @@ use Rattle.std.specs.Prelude.{Bool, true, false, codes, Option, Some, None, if�
 use Rattle.ruby_lexer.specs.Bytes.{Bytes}
 use Rattle.ruby_lexer.specs.Pieces.{Toks}
 use Rattle.ruby_tree.specs.Tree.{Tree, at, assign_all, if_else, while_loop, Trees, trees_then, without, with}
-use Rattle.ruby_tree.specs.Rules.{in_clause, behind, next, spot, Do, loops, is_mark, is_word, begins_statement}
+use Rattle.ruby_tree.specs.Rules.{in_clause, behind, next, position, DoBlockOwner, loops, is_mark, is_word, begins_statement}
 use Rattle.ruby_tree.specs.Build.{one, alone, or_empty, rescued, conjunction, disjunction}
-use Rattle.list_reader.specs.Answers.{taken, fault, Parse, ◌>>=◌}
-use Rattle.list_reader.specs.Fronts.{is_newline}
-use Rattle.list_reader.specs.ReadItems.{Readers, read_several, read_targets}
-use Rattle.list_reader.specs.ReadStatements.{read_stmt}
-use Rattle.parse_statements.specs.declared.logic.Joining.{Joining}
-use Rattle.parse_statements.specs.declared.logic.Joining.TheVariants as joining
+use Rattle.reference_parser.specs.Answers.{taken, fault, Parse, ◌>>=◌}
+use Rattle.reference_parser.specs.Fronts.{is_newline}
+use Rattle.reference_parser.specs.ReadItems.{Readers, read_several, read_targets}
+use Rattle.reference_parser.specs.ReadStatements.{read_stmt}
+use Rattle.parse_statements.specs.declared.logic.LogicalOperator.{LogicalOperator}
+use Rattle.parse_statements.specs.declared.logic.LogicalOperator.TheVariants as joining
 use Rattle.parse_statements.specs.declared.modifiers.Modifier.{Modifier}
 use Rattle.parse_statements.specs.declared.modifiers.Modifier.TheVariants as modifier
 
 -- two tests that are joined: the first begins at w, the word stands at v
-abbrev pub joined_by : Joining → Toks → Toks → Tree → Tree → Tree
+abbrev pub joined_by : LogicalOperator → Toks → Toks → Tree → Tree → Tree
 joined_by joining.And = conjunction
 joined_by joining.Or = disjunction
 
 -- what is made of a statement that begins at o: the word of the modifier stands at w, and c is behind it
 abbrev pub modified_by : Modifier → Toks → Toks → Bool → Tree → Tree → Tree
-modified_by modifier.If = λ o w b a c. at (spot o) (if_else c (alone o a) without)
-modified_by modifier.Unless = λ o w b a c. at (spot o) (if_else c (or_empty without) (with (alone o a)))
-modified_by modifier.While = λ o w b a c. at (spot o) (while_loop (alone o a) c false b)
-modified_by modifier.Until = λ o w b a c. at (spot o) (while_loop (alone o a) c true b)
+modified_by modifier.If = λ o w b a c. at (position o) (if_else c (alone o a) without)
+modified_by modifier.Unless = λ o w b a c. at (position o) (if_else c (or_empty without) (with (alone o a)))
+modified_by modifier.While = λ o w b a c. at (position o) (while_loop (alone o a) c false b)
+modified_by modifier.Until = λ o w b a c. at (position o) (while_loop (alone o a) c true b)
 modified_by modifier.Rescue = λ o w b a c. rescued o w a c
 
 module _ (Q : Readers) where
   -- the word that stands here and the test behind it, behind the tests a, which begin at o
-  abbrev pub one_joining : Joining → Do → Toks → Tree → Parse Tree
+  abbrev pub one_joining : LogicalOperator → DoBlockOwner → Toks → Tree → Parse Tree
   one_joining j d o a w s = Q.test d (next w) s >>= λ b r z. taken (joined_by j o w a b) r z
 
   -- what stands behind `rescue`, in a clause
-  abbrev pub read_saved : Do → Parse Tree
+  abbrev pub read_saved : DoBlockOwner → Parse Tree
   read_saved d w s = Q.expr d w (in_clause s) >>= λ c r z. taken c r (behind s z)
 
   -- what stands behind the word of a modifier
-  abbrev pub condition_of : Modifier → Do → Parse Tree
+  abbrev pub condition_of : Modifier → DoBlockOwner → Parse Tree
   condition_of modifier.If d = Q.expr d
   condition_of modifier.Unless d = Q.expr d
   condition_of modifier.While d = Q.expr loops
@@ -45,12 +45,12 @@ module _ (Q : Readers) where
   condition_of modifier.Rescue d = read_saved d
 
   -- the modifier that stands here, behind the statement a, which begins at o; the flag says whether it is a body
-  abbrev pub one_modifier : Modifier → Do → Toks → Bool → Tree → Parse Tree
+  abbrev pub one_modifier : Modifier → DoBlockOwner → Toks → Bool → Tree → Parse Tree
   one_modifier k d o b a w s = condition_of k d (next w) s >>= λ c r z. taken (modified_by k o w b a c) r z
 
 module _ (source : Bytes) where
   -- what joins a test that stands behind it
-  abbrev pub joining_at : Toks → Option Joining
+  abbrev pub joining_at : Toks → Option LogicalOperator
   joining_at w =
       if is_word source (codes "and") w then Some joining.And
       else if is_word source (codes "or") w then Some joining.Or
@@ -68,17 +68,17 @@ module _ (source : Bytes) where
 
   module _ (Q : Readers) where
     -- two and more variables that are set at once
-    abbrev pub read_set_all : Do → Parse Tree
+    abbrev pub read_set_all : DoBlockOwner → Parse Tree
     read_set_all d w s = read_targets source w s >>= λ gs q y.
-        if is_mark source (codes "=") q then (read_several source Q d (next q) y >>= λ vs r z. taken (at (spot w) (assign_all vs gs)) r z) else fault
+        if is_mark source (codes "=") q then (read_several source Q d (next q) y >>= λ vs r z. taken (at (position w) (assign_all vs gs)) r z) else fault
 
     -- A statement behind those that were gathered. Others follow where a newline stands behind it.
-    unfoldable pub gathered_turn : Do → Trees → (Trees → Parse Trees) → Parse Trees
+    unfoldable pub gathered_turn : DoBlockOwner → Trees → (Trees → Parse Trees) → Parse Trees
     gathered_turn d ts further w s = read_stmt source Q d w s >>= λ t q y.
         if is_newline q then further (trees_then ts (one t)) (next q) y else taken (trees_then ts (one t)) q y
 
     -- a newline or a statement, behind those that were gathered
-    unfoldable pub statement_turn : Do → Trees → (Trees → Parse Trees) → Parse Trees
+    unfoldable pub statement_turn : DoBlockOwner → Trees → (Trees → Parse Trees) → Parse Trees
     statement_turn d ts further w s =
         if is_newline w then further ts (next w) s
         else if begins_statement source w then gathered_turn d ts further w s

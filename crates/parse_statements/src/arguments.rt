@@ -3,13 +3,13 @@ ghost use Rattle.std.specs.Prelude.{◌≡◌};
 ghost use Rattle.ruby_lexer.specs.Bytes.{Bytes};
 ghost use Rattle.ruby_lexer.specs.Pieces.{Toks};
 ghost use Rattle.ruby_tree.specs.Tree.{Tree};
-ghost use Rattle.ruby_tree.specs.Rules.{spot};
-ghost use Rattle.ruby_tree.specs.Spots.{spot_of};
-ghost use Rattle.ruby_sight.specs.Sights.{do_of};
-ghost use Rattle.ruby_parts.specs.Subtrees.{IsNamed, Holds};
-ghost use Rattle.list_reader.specs.ReadItems.{Readers};
-ghost use Rattle.list_reader.specs.ReadOperands as operands;
-ghost use Rattle.list_reader.specs.ReadStatements.{unassigned, start_by, read_unset, read_settable, read_arg, read_whole};
+ghost use Rattle.ruby_tree.specs.Rules.{position};
+ghost use Rattle.ruby_tree.specs.SourcePositions.{position_of};
+ghost use Rattle.token_lookahead.specs.Lookaheads.{do_owner_of};
+ghost use Rattle.tree_builder.specs.Subtrees.{IsNamed, Holds};
+ghost use Rattle.reference_parser.specs.ReadItems.{Readers};
+ghost use Rattle.reference_parser.specs.ReadOperands as operands;
+ghost use Rattle.reference_parser.specs.ReadStatements.{unassigned, start_by, read_unset, read_settable, read_arg, read_assigned_value};
 ghost use Rattle.parse_state.specs.Gives.{Reads};
 ghost use Rattle.parse_operands.specs.Operands.{HoldsStart};
 ghost use Rattle.parse_statements.specs.Arguments.{operated, dotted_command};
@@ -17,12 +17,12 @@ ghost use Rattle.parse_statements.specs.Arguments.{operated, dotted_command};
 use crate::commands::{command, command_behind};
 use crate::places::{set_attribute, set_element};
 use crate::variables::variable;
-use parse_levels::{climb, level, raised};
-use parse_operands::{Start, postfix};
+use parse_operands::{OperandForm, postfix};
+use parse_operators::{climb, level, raised};
 use parse_state::{Context, Failure, Nested, Parser};
-use ruby_parts::Subtree;
-use ruby_sight::Do;
-use ruby_tree::{Name, Spot};
+use ruby_tree::{Name, SourcePosition};
+use token_lookahead::DoBlockOwner;
+use tree_builder::Subtree;
 
 /// An argument.
 ///
@@ -33,12 +33,12 @@ pub fn argument<N: Nested>(
     context: Context<'_>,
     nested: &N,
     parser: &mut Parser<'_>,
-    takes: Do,
+    do_owner: DoBlockOwner,
 ) -> Result<Subtree, Failure>
     requires { N.IsReady nested.now }
-    ensures reads { Reads Holds parser.old parser.new result (read_arg context.entry.source.now (N.readers nested.now context.entry.source.now) (do_of takes)) }
+    ensures reads { Reads Holds parser.old parser.new result (read_arg context.entry.source.now (N.readers nested.now context.entry.source.now) (do_owner_of do_owner)) }
 {
-    settable(context, nested, parser, takes, false)
+    settable(context, nested, parser, do_owner, false)
 }
 
 /// An argument or a command.
@@ -46,19 +46,19 @@ pub fn argument<N: Nested>(
 /// # Errors
 ///
 /// Where the grammar derives none here, where symbols nest too deep, and where there is not memory enough.
-pub fn whole<N: Nested>(
+pub fn assigned_value<N: Nested>(
     context: Context<'_>,
     nested: &N,
     parser: &mut Parser<'_>,
-    takes: Do,
+    do_owner: DoBlockOwner,
 ) -> Result<Subtree, Failure>
     requires { N.IsReady nested.now }
-    ensures reads { Reads Holds parser.old parser.new result (read_whole context.entry.source.now (N.readers nested.now context.entry.source.now) (do_of takes)) }
+    ensures reads { Reads Holds parser.old parser.new result (read_assigned_value context.entry.source.now (N.readers nested.now context.entry.source.now) (do_owner_of do_owner)) }
 {
     if parser.begins_command(context) {
-        return command(context, nested, parser, takes);
+        return command(context, nested, parser, do_owner);
     }
-    settable(context, nested, parser, takes, true)
+    settable(context, nested, parser, do_owner, true)
 }
 
 // An argument, or, where one may stand, a command behind a dot.
@@ -66,16 +66,16 @@ fn settable<N: Nested>(
     context: Context<'_>,
     nested: &N,
     parser: &mut Parser<'_>,
-    takes: Do,
+    do_owner: DoBlockOwner,
     may_command: bool,
 ) -> Result<Subtree, Failure>
     requires { N.IsReady nested.now }
-    ensures reads { Reads Holds parser.old parser.new result (read_settable context.entry.source.now (N.readers nested.now context.entry.source.now) may_command (do_of takes)) }
+    ensures reads { Reads Holds parser.old parser.new result (read_settable context.entry.source.now (N.readers nested.now context.entry.source.now) may_command (do_owner_of do_owner)) }
 {
-    if parser.sight(context).sets() {
-        return variable(context, nested, parser, takes);
+    if parser.lookahead(context).sets() {
+        return variable(context, nested, parser, do_owner);
     }
-    unset(context, nested, parser, takes, may_command)
+    unset(context, nested, parser, do_owner, may_command)
 }
 
 // The same where no variable is set.
@@ -83,80 +83,82 @@ fn unset<N: Nested>(
     context: Context<'_>,
     nested: &N,
     parser: &mut Parser<'_>,
-    takes: Do,
+    do_owner: DoBlockOwner,
     may_command: bool,
 ) -> Result<Subtree, Failure>
     requires { N.IsReady nested.now }
-    ensures reads { Reads Holds parser.old parser.new result (read_unset context.entry.source.now (N.readers nested.now context.entry.source.now) may_command (do_of takes)) }
+    ensures reads { Reads Holds parser.old parser.new result (read_unset context.entry.source.now (N.readers nested.now context.entry.source.now) may_command (do_owner_of do_owner)) }
 {
     if parser.begins_operator(context) {
-        let part = level(context, nested, parser, takes)?;
+        let part = level(context, nested, parser, do_owner)?;
         return unassigned(context, parser, part);
     }
-    let here = parser.sight(context).spot();
-    let start = postfix(context, nested, parser, takes)?;
-    behind_start(context, nested, parser, takes, may_command, here, start)
+    let here = parser.lookahead(context).position();
+    let start = postfix(context, nested, parser, do_owner)?;
+    behind_start(context, nested, parser, do_owner, may_command, here, start)
 }
 
 // A part that nothing is assigned to.
 fn unassigned(context: Context<'_>, parser: &Parser<'_>, part: Subtree) -> Result<Subtree, Failure>
     ensures reads { (Q : Readers) (a : Tree) → Holds parser.now.symbols part a → Reads Holds parser.now parser.now result (unassigned context.entry.source.now Q a) }
 {
-    if parser.sight(context).assigns() {
+    if parser.lookahead(context).assigns() {
         return Err(Failure::Syntax);
     }
     Ok(part)
 }
 
-// What begins with an operand at a spot: operators behind it, an assignment, or a command, where one may stand.
+// What begins with an operand at a position: operators behind it, an assignment, or a command, where one may stand.
 fn behind_start<N: Nested>(
     context: Context<'_>,
     nested: &N,
     parser: &mut Parser<'_>,
-    takes: Do,
+    do_owner: DoBlockOwner,
     may_command: bool,
-    here: Spot,
-    start: Start,
+    here: SourcePosition,
+    start: OperandForm,
 ) -> Result<Subtree, Failure>
     requires { N.IsReady nested.now }
-    ensures reads { (o : Toks) (t : operands.Start) → spot_of here ≡ spot o → HoldsStart parser.old.symbols start t → Reads Holds parser.old parser.new result (start_by context.entry.source.now (N.readers nested.now context.entry.source.now) may_command (do_of takes) o t) }
+    ensures reads { (o : Toks) (t : operands.OperandForm) → position_of here ≡ position o → HoldsStart parser.old.symbols start t → Reads Holds parser.old parser.new result (start_by context.entry.source.now (N.readers nested.now context.entry.source.now) may_command (do_owner_of do_owner) o t) }
 {
     match start {
-        Start::Operand(operand) => { behind_operand(context, nested, parser, takes, here, operand) }
-        Start::Attribute(receiver, spot, name) => {
-            set_attribute(context, nested, parser, takes, spot, receiver, name)
+        OperandForm::Operand(operand) => {
+            behind_operand(context, nested, parser, do_owner, here, operand)
         }
-        Start::Element(receiver, spot, index) => {
-            set_element(context, nested, parser, takes, spot, receiver, index)
+        OperandForm::Attribute(receiver, position, name) => {
+            set_attribute(context, nested, parser, do_owner, position, receiver, name)
         }
-        Start::Command(safe, receiver, spot, name) => dotted_command(
+        OperandForm::Element(receiver, position, index) => {
+            set_element(context, nested, parser, do_owner, position, receiver, index)
+        }
+        OperandForm::Command(safe, receiver, position, name) => dotted_command(
             context,
             nested,
             parser,
-            takes,
+            do_owner,
             may_command,
             safe,
             receiver,
-            spot,
+            position,
             name,
         ),
     }
 }
 
-// The operators behind an operand that begins at a spot.
+// The operators behind an operand that begins at a position.
 fn behind_operand<N: Nested>(
     context: Context<'_>,
     nested: &N,
     parser: &mut Parser<'_>,
-    takes: Do,
-    here: Spot,
+    do_owner: DoBlockOwner,
+    here: SourcePosition,
     operand: Subtree,
 ) -> Result<Subtree, Failure>
     requires { N.IsReady nested.now }
-    ensures reads { (o : Toks) (a : Tree) → spot_of here ≡ spot o → Holds parser.old.symbols operand a → Reads Holds parser.old parser.new result (operated context.entry.source.now (N.readers nested.now context.entry.source.now) (do_of takes) o a) }
+    ensures reads { (o : Toks) (a : Tree) → position_of here ≡ position o → Holds parser.old.symbols operand a → Reads Holds parser.old parser.new result (operated context.entry.source.now (N.readers nested.now context.entry.source.now) (do_owner_of do_owner) o a) }
 {
-    let power = raised(context, nested, parser, takes, here, operand)?;
-    let part = climb(context, nested, parser, takes, here, power)?;
+    let power = raised(context, nested, parser, do_owner, here, operand)?;
+    let part = climb(context, nested, parser, do_owner, here, power)?;
     unassigned(context, parser, part)
 }
 
@@ -166,18 +168,20 @@ fn dotted_command<N: Nested>(
     context: Context<'_>,
     nested: &N,
     parser: &mut Parser<'_>,
-    takes: Do,
+    do_owner: DoBlockOwner,
     may_command: bool,
     safe: bool,
     receiver: Subtree,
-    spot: Spot,
+    position: SourcePosition,
     name: Name,
 ) -> Result<Subtree, Failure>
     requires { N.IsReady nested.now }
-    ensures reads { (a : Tree) (m : Bytes) → Holds parser.old.symbols receiver a → IsNamed parser.old.symbols name m → Reads Holds parser.old parser.new result (dotted_command context.entry.source.now (N.readers nested.now context.entry.source.now) (do_of takes) may_command safe a (spot_of spot) m) }
+    ensures reads { (a : Tree) (m : Bytes) → Holds parser.old.symbols receiver a → IsNamed parser.old.symbols name m → Reads Holds parser.old parser.new result (dotted_command context.entry.source.now (N.readers nested.now context.entry.source.now) (do_owner_of do_owner) may_command safe a (position_of position) m) }
 {
     if may_command {
-        return command_behind(context, nested, parser, takes, safe, receiver, spot, name);
+        return command_behind(
+            context, nested, parser, do_owner, safe, receiver, position, name,
+        );
     }
     Err(Failure::Syntax)
 }

@@ -1,22 +1,21 @@
 //! Commands: calls whose arguments need no brackets, and the words that leave.
 ghost use Rattle.ruby_lexer.specs.Bytes.{Bytes};
 ghost use Rattle.ruby_tree.specs.Tree.{Tree};
-ghost use Rattle.ruby_tree.specs.Spots.{spot_of};
-ghost use Rattle.ruby_sight.specs.Sights.{do_of};
-ghost use Rattle.ruby_parts.specs.Subtrees.{IsNamed, Holds, HoldsAll};
-ghost use Rattle.list_reader.specs.ReadStatements.{command_by, read_values, read_command};
+ghost use Rattle.ruby_tree.specs.SourcePositions.{position_of};
+ghost use Rattle.token_lookahead.specs.Lookaheads.{do_owner_of};
+ghost use Rattle.tree_builder.specs.Subtrees.{IsNamed, Holds, HoldsAll};
+ghost use Rattle.reference_parser.specs.ReadStatements.{command_by, read_values, read_command};
 ghost use Rattle.parse_state.specs.Gives.{Reads};
 ghost use Rattle.parse_statements.specs.Commands.{named_command, yield_command, super_command, return_command, break_command, next_command};
 
-use parse_bodies::command_block;
-use parse_items::{GivenParts, command_items, several};
+use parse_parts::{ArgumentParts, command_block, command_items, several};
 use parse_state::{Context, Failure, Nested, Parser};
-use ruby_parts::{
-    OtherSubtree, Subtree, Subtrees, break_with, call_form, next_with, return_with, send,
+use ruby_tree::{Name, SourcePosition};
+use token_lookahead::DoBlockOwner;
+use tree_builder::{
+    ElseSubtree, Subtree, Subtrees, break_with, call_form, next_with, return_with, send,
     super_with, yield_with,
 };
-use ruby_sight::Do;
-use ruby_tree::{Name, Spot};
 
 /// A command that begins with its name or its word.
 ///
@@ -27,27 +26,27 @@ pub fn command<N: Nested>(
     context: Context<'_>,
     nested: &N,
     parser: &mut Parser<'_>,
-    takes: Do,
+    do_owner: DoBlockOwner,
 ) -> Result<Subtree, Failure>
     requires { N.IsReady nested.now }
-    ensures reads { Reads Holds parser.old parser.new result (read_command context.entry.source.now (N.readers nested.now context.entry.source.now) (do_of takes)) }
+    ensures reads { Reads Holds parser.old parser.new result (read_command context.entry.source.now (N.readers nested.now context.entry.source.now) (do_owner_of do_owner)) }
 {
-    if parser.sight(context).is_name() {
-        return named_command(context, nested, parser, takes);
+    if parser.lookahead(context).is_name() {
+        return named_command(context, nested, parser, do_owner);
     }
     if parser.is_word(context, "yield") {
-        return yield_command(context, nested, parser, takes);
+        return yield_command(context, nested, parser, do_owner);
     }
     if parser.is_word(context, "super") {
-        return super_command(context, nested, parser, takes);
+        return super_command(context, nested, parser, do_owner);
     }
     if parser.is_word(context, "return") {
-        return return_command(context, nested, parser, takes);
+        return return_command(context, nested, parser, do_owner);
     }
     if parser.is_word(context, "break") {
-        return break_command(context, nested, parser, takes);
+        return break_command(context, nested, parser, do_owner);
     }
-    next_command(context, nested, parser, takes)
+    next_command(context, nested, parser, do_owner)
 }
 
 // A name with its items and its block.
@@ -55,24 +54,24 @@ fn named_command<N: Nested>(
     context: Context<'_>,
     nested: &N,
     parser: &mut Parser<'_>,
-    takes: Do,
+    do_owner: DoBlockOwner,
 ) -> Result<Subtree, Failure>
     requires { N.IsReady nested.now }
-    ensures reads { Reads Holds parser.old parser.new result (named_command context.entry.source.now (N.readers nested.now context.entry.source.now) (do_of takes)) }
+    ensures reads { Reads Holds parser.old parser.new result (named_command context.entry.source.now (N.readers nested.now context.entry.source.now) (do_owner_of do_owner)) }
 {
-    let here = parser.sight(context).spot();
+    let here = parser.lookahead(context).position();
     let name = parser.word_name(context)?;
     parser.bump();
-    let given = command_items(context, nested, parser, takes)?;
+    let given = command_items(context, nested, parser, do_owner)?;
     let has_block = given.has_block();
-    let GivenParts {
+    let ArgumentParts {
         arguments,
         spread,
         value,
         block,
     } = given;
-    let block = command_block(context, nested, parser, takes, has_block, block)?;
-    let receiver = OtherSubtree::none();
+    let block = command_block(context, nested, parser, do_owner, has_block, block)?;
+    let receiver = ElseSubtree::none();
     Ok(send(here, receiver, arguments, spread, value, name, false, block))
 }
 
@@ -81,14 +80,14 @@ fn yield_command<N: Nested>(
     context: Context<'_>,
     nested: &N,
     parser: &mut Parser<'_>,
-    takes: Do,
+    do_owner: DoBlockOwner,
 ) -> Result<Subtree, Failure>
     requires { N.IsReady nested.now }
-    ensures reads { Reads Holds parser.old parser.new result (yield_command context.entry.source.now (N.readers nested.now context.entry.source.now) (do_of takes)) }
+    ensures reads { Reads Holds parser.old parser.new result (yield_command context.entry.source.now (N.readers nested.now context.entry.source.now) (do_owner_of do_owner)) }
 {
-    let here = parser.sight(context).spot();
+    let here = parser.lookahead(context).position();
     parser.bump();
-    let given = command_items(context, nested, parser, takes)?;
+    let given = command_items(context, nested, parser, do_owner)?;
     if given.has_block() {
         return Err(Failure::Syntax);
     }
@@ -100,22 +99,22 @@ fn super_command<N: Nested>(
     context: Context<'_>,
     nested: &N,
     parser: &mut Parser<'_>,
-    takes: Do,
+    do_owner: DoBlockOwner,
 ) -> Result<Subtree, Failure>
     requires { N.IsReady nested.now }
-    ensures reads { Reads Holds parser.old parser.new result (super_command context.entry.source.now (N.readers nested.now context.entry.source.now) (do_of takes)) }
+    ensures reads { Reads Holds parser.old parser.new result (super_command context.entry.source.now (N.readers nested.now context.entry.source.now) (do_owner_of do_owner)) }
 {
-    let here = parser.sight(context).spot();
+    let here = parser.lookahead(context).position();
     parser.bump();
-    let given = command_items(context, nested, parser, takes)?;
+    let given = command_items(context, nested, parser, do_owner)?;
     let has_block = given.has_block();
-    let GivenParts {
+    let ArgumentParts {
         arguments,
         spread,
         value,
         block,
     } = given;
-    let block = command_block(context, nested, parser, takes, has_block, block)?;
+    let block = command_block(context, nested, parser, do_owner, has_block, block)?;
     Ok(super_with(here, arguments, spread, value, block))
 }
 
@@ -124,13 +123,13 @@ fn values_behind<N: Nested>(
     context: Context<'_>,
     nested: &N,
     parser: &mut Parser<'_>,
-    takes: Do,
+    do_owner: DoBlockOwner,
 ) -> Result<Subtrees, Failure>
     requires { N.IsReady nested.now }
-    ensures reads { Reads HoldsAll parser.old parser.new result (read_values context.entry.source.now (N.readers nested.now context.entry.source.now) (do_of takes)) }
+    ensures reads { Reads HoldsAll parser.old parser.new result (read_values context.entry.source.now (N.readers nested.now context.entry.source.now) (do_owner_of do_owner)) }
 {
-    if parser.sight(context).begins_value() {
-        return several(context, nested, parser, takes);
+    if parser.lookahead(context).begins_value() {
+        return several(context, nested, parser, do_owner);
     }
     Ok(Subtrees::new(context.alloc))
 }
@@ -140,14 +139,14 @@ fn return_command<N: Nested>(
     context: Context<'_>,
     nested: &N,
     parser: &mut Parser<'_>,
-    takes: Do,
+    do_owner: DoBlockOwner,
 ) -> Result<Subtree, Failure>
     requires { N.IsReady nested.now }
-    ensures reads { Reads Holds parser.old parser.new result (return_command context.entry.source.now (N.readers nested.now context.entry.source.now) (do_of takes)) }
+    ensures reads { Reads Holds parser.old parser.new result (return_command context.entry.source.now (N.readers nested.now context.entry.source.now) (do_owner_of do_owner)) }
 {
-    let here = parser.sight(context).spot();
+    let here = parser.lookahead(context).position();
     parser.bump();
-    let values = values_behind(context, nested, parser, takes)?;
+    let values = values_behind(context, nested, parser, do_owner)?;
     Ok(return_with(here, values))
 }
 
@@ -156,14 +155,14 @@ fn break_command<N: Nested>(
     context: Context<'_>,
     nested: &N,
     parser: &mut Parser<'_>,
-    takes: Do,
+    do_owner: DoBlockOwner,
 ) -> Result<Subtree, Failure>
     requires { N.IsReady nested.now }
-    ensures reads { Reads Holds parser.old parser.new result (break_command context.entry.source.now (N.readers nested.now context.entry.source.now) (do_of takes)) }
+    ensures reads { Reads Holds parser.old parser.new result (break_command context.entry.source.now (N.readers nested.now context.entry.source.now) (do_owner_of do_owner)) }
 {
-    let here = parser.sight(context).spot();
+    let here = parser.lookahead(context).position();
     parser.bump();
-    let values = values_behind(context, nested, parser, takes)?;
+    let values = values_behind(context, nested, parser, do_owner)?;
     Ok(break_with(here, values))
 }
 
@@ -172,14 +171,14 @@ fn next_command<N: Nested>(
     context: Context<'_>,
     nested: &N,
     parser: &mut Parser<'_>,
-    takes: Do,
+    do_owner: DoBlockOwner,
 ) -> Result<Subtree, Failure>
     requires { N.IsReady nested.now }
-    ensures reads { Reads Holds parser.old parser.new result (next_command context.entry.source.now (N.readers nested.now context.entry.source.now) (do_of takes)) }
+    ensures reads { Reads Holds parser.old parser.new result (next_command context.entry.source.now (N.readers nested.now context.entry.source.now) (do_owner_of do_owner)) }
 {
-    let here = parser.sight(context).spot();
+    let here = parser.lookahead(context).position();
     parser.bump();
-    let values = values_behind(context, nested, parser, takes)?;
+    let values = values_behind(context, nested, parser, do_owner)?;
     Ok(next_with(here, values))
 }
 
@@ -193,24 +192,24 @@ pub fn command_behind<N: Nested>(
     context: Context<'_>,
     nested: &N,
     parser: &mut Parser<'_>,
-    takes: Do,
+    do_owner: DoBlockOwner,
     safe: bool,
     receiver: Subtree,
-    here: Spot,
+    here: SourcePosition,
     name: Name,
 ) -> Result<Subtree, Failure>
     requires { N.IsReady nested.now }
-    ensures reads { (a : Tree) (m : Bytes) → Holds parser.old.symbols receiver a → IsNamed parser.old.symbols name m → Reads Holds parser.old parser.new result (command_by context.entry.source.now (N.readers nested.now context.entry.source.now) (do_of takes) safe a (spot_of here) m) }
+    ensures reads { (a : Tree) (m : Bytes) → Holds parser.old.symbols receiver a → IsNamed parser.old.symbols name m → Reads Holds parser.old parser.new result (command_by context.entry.source.now (N.readers nested.now context.entry.source.now) (do_owner_of do_owner) safe a (position_of here) m) }
 {
-    let given = command_items(context, nested, parser, takes)?;
+    let given = command_items(context, nested, parser, do_owner)?;
     let has_block = given.has_block();
-    let GivenParts {
+    let ArgumentParts {
         arguments,
         spread,
         value,
         block,
     } = given;
-    let block = command_block(context, nested, parser, takes, has_block, block)?;
+    let block = command_block(context, nested, parser, do_owner, has_block, block)?;
     let alloc = context.alloc;
     Ok(call_form(
         alloc, here, safe, receiver, arguments, spread, value, name, block,

@@ -1,6 +1,6 @@
 //! Assignments, commands, tests, modifiers and statements.
 //!
-//! A function that reads gives what the reader on lists (`list_reader`) takes from where the parser stood, and leaves the parser behind it.
+//! A function that reads gives what the reader on lists (`reference_parser`) takes from where the parser stood, and leaves the parser behind it.
 #![tactic(auto)]
 
 mod arguments;
@@ -13,6 +13,6 @@ mod several;
 mod values;
 mod variables;
 
-pub use arguments::{argument, whole};
+pub use arguments::{argument, assigned_value};
 pub use logic::{expression, test};
 pub use sequences::{statement, statements};

@@ -5,21 +5,21 @@ ghost use Rattle.ruby_tree.specs.Names.{Texts};
 ghost use Rattle.ruby_tree.specs.Tree.{Tree, at, if_else, while_loop, without, with};
 ghost use Rattle.ruby_tree.specs.Depth.{depth};
 ghost use Rattle.ruby_tree.specs.Build.{alone, or_empty};
-ghost use Rattle.ruby_tree.specs.Rules.{Scope, next, spot};
-ghost use Rattle.ruby_tree.specs.Spots.{spot_of};
-ghost use Rattle.ruby_sight.specs.Sights.{do_of};
-ghost use Rattle.ruby_parts.specs.Subtrees.{Holds};
-ghost use Rattle.list_reader.specs.ReadStatements.{modifiers_from};
+ghost use Rattle.ruby_tree.specs.Rules.{Scope, next, position};
+ghost use Rattle.ruby_tree.specs.SourcePositions.{position_of};
+ghost use Rattle.token_lookahead.specs.Lookaheads.{do_owner_of};
+ghost use Rattle.tree_builder.specs.Subtrees.{Holds};
+ghost use Rattle.reference_parser.specs.ReadStatements.{modifiers_from};
 ghost use Rattle.parse_state.specs.Standing.{At};
 ghost use Rattle.parse_state.specs.Gives.{Reads, ReadsWithin};
 ghost use Rattle.parse_statements.specs.Statements.{modifier_at, modified_by, condition_of, read_saved, one_modifier};
 
 use bs_outside::NoMemory;
 use parse_state::{Context, Failure, Nested, Parser};
-use ruby_parts::{OtherSubtree, Subtree, alone, if_else, or_empty, rescued, while_loop};
-use ruby_sight::Do;
-use ruby_tree::Spot;
+use ruby_tree::SourcePosition;
 use std::alloc::Global;
+use token_lookahead::DoBlockOwner;
+use tree_builder::{ElseSubtree, Subtree, alone, if_else, or_empty, rescued, while_loop};
 
 /// A word behind a statement that makes a part of a larger one of it.
 #[derive(Clone, Copy, Debug, PartialEq, Eq, Drop)]
@@ -36,7 +36,7 @@ pub enum Modifier {
     Rescue,
 }
 
-/// A statement with the modifiers behind it. It begins at the spot, and is told whether it is a body between `begin` and `end`. Of one that
+/// A statement with the modifiers behind it. It begins at the position, and is told whether it is a body between `begin` and `end`. Of one that
 /// is too deep to be kept nothing has to be told.
 ///
 /// # Errors
@@ -46,17 +46,17 @@ pub fn modified<N: Nested>(
     context: Context<'_>,
     nested: &N,
     parser: &mut Parser<'_>,
-    takes: Do,
-    here: Spot,
+    do_owner: DoBlockOwner,
+    here: SourcePosition,
     mut is_body: bool,
     mut statement: Subtree,
 ) -> Result<Subtree, Failure>
     requires { N.IsReady nested.now }
-    ensures reads { (o : Toks) (b : Bool) (a : Tree) → spot_of here ≡ spot o → (depth a ≤ 200 → is_body ≡ b) → Holds parser.old.symbols statement a → ReadsWithin Holds parser.old parser.new result (λ m. modifiers_from context.entry.source.now (N.readers nested.now context.entry.source.now) m (do_of takes) o b a) }
+    ensures reads { (o : Toks) (b : Bool) (a : Tree) → position_of here ≡ position o → (depth a ≤ 200 → is_body ≡ b) → Holds parser.old.symbols statement a → ReadsWithin Holds parser.old parser.new result (λ m. modifiers_from context.entry.source.now (N.readers nested.now context.entry.source.now) m (do_owner_of do_owner) o b a) }
 {
     while let Some(modifier) = modifier_here(context, parser) {
         statement = one_modifier(
-            context, nested, parser, takes, modifier, here, is_body, statement,
+            context, nested, parser, do_owner, modifier, here, is_body, statement,
         )?;
         is_body = false;
     }
@@ -92,21 +92,21 @@ fn one_modifier<N: Nested>(
     context: Context<'_>,
     nested: &N,
     parser: &mut Parser<'_>,
-    takes: Do,
+    do_owner: DoBlockOwner,
     modifier: Modifier,
-    here: Spot,
+    here: SourcePosition,
     is_body: bool,
     statement: Subtree,
 ) -> Result<Subtree, Failure>
     requires { N.IsReady nested.now }
-    ensures reads { (o : Toks) (b : Bool) (a : Tree) → spot_of here ≡ spot o → (depth a ≤ 200 → is_body ≡ b) → Holds parser.old.symbols statement a → Reads Holds parser.old parser.new result (one_modifier (N.readers nested.now context.entry.source.now) modifier (do_of takes) o b a) }
+    ensures reads { (o : Toks) (b : Bool) (a : Tree) → position_of here ≡ position o → (depth a ≤ 200 → is_body ≡ b) → Holds parser.old.symbols statement a → Reads Holds parser.old parser.new result (one_modifier (N.readers nested.now context.entry.source.now) modifier (do_owner_of do_owner) o b a) }
     ensures fewer { (x : Subtree) → result ≡ Ok x → length parser.new.rest.now ≤ length parser.old.rest.now - 1 }
 {
-    let sight = parser.sight(context);
-    let word = sight.spot();
-    let behind = sight.next().spot();
+    let lookahead = parser.lookahead(context);
+    let word = lookahead.position();
+    let behind = lookahead.next().position();
     parser.bump();
-    let condition = condition(context, nested, parser, takes, modifier)?;
+    let condition = condition(context, nested, parser, do_owner, modifier)?;
     Ok(made(
         context.alloc,
         modifier,
@@ -124,16 +124,20 @@ fn condition<N: Nested>(
     context: Context<'_>,
     nested: &N,
     parser: &mut Parser<'_>,
-    takes: Do,
+    do_owner: DoBlockOwner,
     modifier: Modifier,
 ) -> Result<Subtree, Failure>
     requires { N.IsReady nested.now }
-    ensures reads { Reads Holds parser.old parser.new result (condition_of (N.readers nested.now context.entry.source.now) modifier (do_of takes)) }
+    ensures reads { Reads Holds parser.old parser.new result (condition_of (N.readers nested.now context.entry.source.now) modifier (do_owner_of do_owner)) }
 {
     match modifier {
-        Modifier::If | Modifier::Unless => nested.expression(context, parser, takes),
-        Modifier::While | Modifier::Until => nested.expression(context, parser, Do::Loops),
-        Modifier::Rescue => saved(context, nested, parser, takes),
+        Modifier::If | Modifier::Unless => nested.expression(context, parser, do_owner),
+        Modifier::While | Modifier::Until => nested.expression(
+            context,
+            parser,
+            DoBlockOwner::Loops,
+        ),
+        Modifier::Rescue => saved(context, nested, parser, do_owner),
     }
 }
 
@@ -142,31 +146,31 @@ fn saved<N: Nested>(
     context: Context<'_>,
     nested: &N,
     parser: &mut Parser<'_>,
-    takes: Do,
+    do_owner: DoBlockOwner,
 ) -> Result<Subtree, Failure>
     requires { N.IsReady nested.now }
-    ensures reads { Reads Holds parser.old parser.new result (read_saved (N.readers nested.now context.entry.source.now) (do_of takes)) }
+    ensures reads { Reads Holds parser.old parser.new result (read_saved (N.readers nested.now context.entry.source.now) (do_owner_of do_owner)) }
 {
     let in_clause = parser.in_clause;
     parser.enter_clause();
-    let part = nested.expression(context, parser, takes)?;
+    let part = nested.expression(context, parser, do_owner)?;
     parser.go_behind(in_clause);
     Ok(part)
 }
 
-// The tree of a statement with a modifier. The spots are those of the statement, of the modifier's word, and of what stands behind that.
+// The tree of a statement with a modifier. The positions are those of the statement, of the modifier's word, and of what stands behind that.
 #[allow(clippy::too_many_arguments)]
 fn made(
     alloc: Global,
     modifier: Modifier,
-    here: Spot,
-    word: Spot,
-    behind: Spot,
+    here: SourcePosition,
+    word: SourcePosition,
+    behind: SourcePosition,
     is_body: bool,
     statement: Subtree,
     condition: Subtree,
 ) -> Result<Subtree, NoMemory>
-    ensures made { (T : Texts) (o v : Toks) (b : Bool) (a c : Tree) → spot_of here ≡ spot o → spot_of word ≡ spot v → spot_of behind ≡ spot (next v) → (depth a ≤ 200 → is_body ≡ b) → Holds T statement a → Holds T condition c → IfOk result (λ part. Holds T part (modified_by modifier o v b a c)) }
+    ensures made { (T : Texts) (o v : Toks) (b : Bool) (a c : Tree) → position_of here ≡ position o → position_of word ≡ position v → position_of behind ≡ position (next v) → (depth a ≤ 200 → is_body ≡ b) → Holds T statement a → Holds T condition c → IfOk result (λ part. Holds T part (modified_by modifier o v b a c)) }
 {
     match modifier {
         Modifier::If => where_true(alloc, here, statement, condition),
@@ -180,41 +184,41 @@ fn made(
 // `a if c`
 fn where_true(
     alloc: Global,
-    here: Spot,
+    here: SourcePosition,
     statement: Subtree,
     condition: Subtree,
 ) -> Result<Subtree, NoMemory>
-    ensures made { (T : Texts) (o : Toks) (a c : Tree) → spot_of here ≡ spot o → Holds T statement a → Holds T condition c → IfOk result (λ part. Holds T part (at (spot o) (if_else c (alone o a) without))) }
+    ensures made { (T : Texts) (o : Toks) (a c : Tree) → position_of here ≡ position o → Holds T statement a → Holds T condition c → IfOk result (λ part. Holds T part (at (position o) (if_else c (alone o a) without))) }
 {
     let chosen = alone(alloc, here, statement)?;
-    if_else(alloc, here, condition, chosen, OtherSubtree::none())
+    if_else(alloc, here, condition, chosen, ElseSubtree::none())
 }
 
 // `a unless c`
 fn where_false(
     alloc: Global,
-    here: Spot,
+    here: SourcePosition,
     statement: Subtree,
     condition: Subtree,
 ) -> Result<Subtree, NoMemory>
-    ensures made { (T : Texts) (o : Toks) (a c : Tree) → spot_of here ≡ spot o → Holds T statement a → Holds T condition c → IfOk result (λ part. Holds T part (at (spot o) (if_else c (or_empty without) (with (alone o a))))) }
+    ensures made { (T : Texts) (o : Toks) (a c : Tree) → position_of here ≡ position o → Holds T statement a → Holds T condition c → IfOk result (λ part. Holds T part (at (position o) (if_else c (or_empty without) (with (alone o a))))) }
 {
     let other = alone(alloc, here, statement)?;
-    let other = OtherSubtree::some(alloc, other)?;
-    let nothing = or_empty(alloc, OtherSubtree::none());
+    let other = ElseSubtree::some(alloc, other)?;
+    let nothing = or_empty(alloc, ElseSubtree::none());
     if_else(alloc, here, condition, nothing, other)
 }
 
 // `a while c`, or `a until c`
 fn looped(
     alloc: Global,
-    here: Spot,
+    here: SourcePosition,
     until: bool,
     is_body: bool,
     statement: Subtree,
     condition: Subtree,
 ) -> Result<Subtree, NoMemory>
-    ensures made { (T : Texts) (o : Toks) (b : Bool) (a c : Tree) → spot_of here ≡ spot o → (depth a ≤ 200 → is_body ≡ b) → Holds T statement a → Holds T condition c → IfOk result (λ part. Holds T part (at (spot o) (while_loop (alone o a) c until b))) }
+    ensures made { (T : Texts) (o : Toks) (b : Bool) (a c : Tree) → position_of here ≡ position o → (depth a ≤ 200 → is_body ≡ b) → Holds T statement a → Holds T condition c → IfOk result (λ part. Holds T part (at (position o) (while_loop (alone o a) c until b))) }
 {
     let body = alone(alloc, here, statement)?;
     while_loop(alloc, here, body, condition, until, is_body)

@@ -4,23 +4,23 @@ ghost use Rattle.ruby_lexer.specs.Bytes.{Bytes};
 ghost use Rattle.ruby_lexer.specs.Pieces.{Toks, seen_all};
 ghost use Rattle.ruby_tree.specs.Tree.{Tree, at, operate_attribute, operate_index};
 ghost use Rattle.ruby_tree.specs.Rules.{Scope, word, but_last, line_at};
-ghost use Rattle.ruby_tree.specs.Spots.{spot_of};
-ghost use Rattle.ruby_sight.specs.Sights.{do_of};
-ghost use Rattle.ruby_parts.specs.Subtrees.{IsNamed, Holds};
-ghost use Rattle.list_reader.specs.Answers.{taken};
-ghost use Rattle.list_reader.specs.ReadOperands.{attribute, element};
-ghost use Rattle.list_reader.specs.ReadStatements.{start_by, attribute_form, element_form};
+ghost use Rattle.ruby_tree.specs.SourcePositions.{position_of};
+ghost use Rattle.token_lookahead.specs.Lookaheads.{do_owner_of};
+ghost use Rattle.tree_builder.specs.Subtrees.{IsNamed, Holds};
+ghost use Rattle.reference_parser.specs.Answers.{taken};
+ghost use Rattle.reference_parser.specs.ReadOperands.{attribute, element};
+ghost use Rattle.reference_parser.specs.ReadStatements.{start_by, attribute_form, element_form};
 ghost use Rattle.parse_state.specs.Standing.{At};
 ghost use Rattle.parse_state.specs.Gives.{Gives, Reads};
 
 use crate::values::{operator_name, value};
 use parse_state::{Context, Failure, Nested, Parser};
-use ruby_parts::{
+use ruby_tree::{Name, SourcePosition};
+use token_lookahead::{DoBlockOwner, Lookahead};
+use tree_builder::{
     Subtree, and_attribute, and_index, assign_attribute, assign_index, operate_attribute,
     operate_index, or_attribute, or_index,
 };
-use ruby_sight::{Do, Sight};
-use ruby_tree::{Name, Spot};
 
 /// An attribute that is set by the token here.
 ///
@@ -31,17 +31,17 @@ pub fn set_attribute<N: Nested>(
     context: Context<'_>,
     nested: &N,
     parser: &mut Parser<'_>,
-    takes: Do,
-    here: Spot,
+    do_owner: DoBlockOwner,
+    here: SourcePosition,
     receiver: Subtree,
     name: Name,
 ) -> Result<Subtree, Failure>
     requires { N.IsReady nested.now }
-    ensures reads { (c : Bool) (o : Toks) (a : Tree) (m : Bytes) → Holds parser.old.symbols receiver a → IsNamed parser.old.symbols name m → Reads Holds parser.old parser.new result (λ w s. start_by context.entry.source.now (N.readers nested.now context.entry.source.now) c (do_of takes) o (attribute a (spot_of here) m) w s) }
+    ensures reads { (c : Bool) (o : Toks) (a : Tree) (m : Bytes) → Holds parser.old.symbols receiver a → IsNamed parser.old.symbols name m → Reads Holds parser.old parser.new result (λ w s. start_by context.entry.source.now (N.readers nested.now context.entry.source.now) c (do_owner_of do_owner) o (attribute a (position_of here) m) w s) }
 {
-    let operator = parser.sight(context);
+    let operator = parser.lookahead(context);
     parser.bump();
-    let value = value(context, nested, parser, takes)?;
+    let value = value(context, nested, parser, do_owner)?;
     attribute_form(context, parser, here, operator, receiver, name, value)
 }
 
@@ -54,31 +54,31 @@ pub fn set_element<N: Nested>(
     context: Context<'_>,
     nested: &N,
     parser: &mut Parser<'_>,
-    takes: Do,
-    here: Spot,
+    do_owner: DoBlockOwner,
+    here: SourcePosition,
     receiver: Subtree,
     index: Subtree,
 ) -> Result<Subtree, Failure>
     requires { N.IsReady nested.now }
-    ensures reads { (c : Bool) (o : Toks) (a i : Tree) → Holds parser.old.symbols receiver a → Holds parser.old.symbols index i → Reads Holds parser.old parser.new result (λ w s. start_by context.entry.source.now (N.readers nested.now context.entry.source.now) c (do_of takes) o (element a (spot_of here) i) w s) }
+    ensures reads { (c : Bool) (o : Toks) (a i : Tree) → Holds parser.old.symbols receiver a → Holds parser.old.symbols index i → Reads Holds parser.old parser.new result (λ w s. start_by context.entry.source.now (N.readers nested.now context.entry.source.now) c (do_owner_of do_owner) o (element a (position_of here) i) w s) }
 {
-    let operator = parser.sight(context);
+    let operator = parser.lookahead(context);
     parser.bump();
-    let value = value(context, nested, parser, takes)?;
+    let value = value(context, nested, parser, do_owner)?;
     element_form(context, parser, here, operator, receiver, index, value)
 }
 
-// What the operator, which is the first token of its sight, makes of an attribute and a value. The whole stands at the spot.
+// What the operator, which is the first token of its lookahead, makes of an attribute and a value. The whole stands at the position.
 fn attribute_form(
     context: Context<'_>,
     parser: &mut Parser<'_>,
-    here: Spot,
-    operator: Sight<'_>,
+    here: SourcePosition,
+    operator: Lookahead<'_>,
     receiver: Subtree,
     name: Name,
     value: Subtree,
 ) -> Result<Subtree, Failure>
-    ensures gives { (q : Toks) (a v : Tree) (m : Bytes) → operator.entry.source.now ≡ context.entry.source.now → seen_all operator.entry.rest.now ≡ q → Holds parser.old.symbols receiver a → IsNamed parser.old.symbols name m → Holds parser.old.symbols value v → (w : Toks) (s : Scope) → At parser.old w s → Gives Holds parser.old parser.new result (taken (at (spot_of here) (attribute_form context.entry.source.now a m q v)) w s) }
+    ensures gives { (q : Toks) (a v : Tree) (m : Bytes) → operator.entry.source.now ≡ context.entry.source.now → seen_all operator.entry.rest.now ≡ q → Holds parser.old.symbols receiver a → IsNamed parser.old.symbols name m → Holds parser.old.symbols value v → (w : Toks) (s : Scope) → At parser.old w s → Gives Holds parser.old parser.new result (taken (at (position_of here) (attribute_form context.entry.source.now a m q v)) w s) }
 {
     let alloc = context.alloc;
     let setter = setter_of(context, parser, name)?;
@@ -109,14 +109,14 @@ fn setter_of(context: Context<'_>, parser: &mut Parser<'_>, name: Name) -> Resul
 fn send_attribute(
     context: Context<'_>,
     parser: &mut Parser<'_>,
-    here: Spot,
-    operator: Sight<'_>,
+    here: SourcePosition,
+    operator: Lookahead<'_>,
     receiver: Subtree,
     name: Name,
     value: Subtree,
     setter: Name,
 ) -> Result<Subtree, Failure>
-    ensures gives { (q : Toks) (a v : Tree) (m n : Bytes) → operator.entry.source.now ≡ context.entry.source.now → seen_all operator.entry.rest.now ≡ q → Holds parser.old.symbols receiver a → IsNamed parser.old.symbols name m → Holds parser.old.symbols value v → IsNamed parser.old.symbols setter n → (w : Toks) (s : Scope) → At parser.old w s → Gives Holds parser.old parser.new result (taken (at (spot_of here) (operate_attribute a m v (but_last (word context.entry.source.now q)) n (line_at q))) w s) }
+    ensures gives { (q : Toks) (a v : Tree) (m n : Bytes) → operator.entry.source.now ≡ context.entry.source.now → seen_all operator.entry.rest.now ≡ q → Holds parser.old.symbols receiver a → IsNamed parser.old.symbols name m → Holds parser.old.symbols value v → IsNamed parser.old.symbols setter n → (w : Toks) (s : Scope) → At parser.old w s → Gives Holds parser.old parser.new result (taken (at (position_of here) (operate_attribute a m v (but_last (word context.entry.source.now q)) n (line_at q))) w s) }
 {
     let alloc = context.alloc;
     let line = operator.line_at();
@@ -124,17 +124,17 @@ fn send_attribute(
     Ok(operate_attribute(alloc, here, receiver, name, value, sent, setter, line)?)
 }
 
-// What the operator, which is the first token of its sight, makes of an element and a value. The whole stands at the spot.
+// What the operator, which is the first token of its lookahead, makes of an element and a value. The whole stands at the position.
 fn element_form(
     context: Context<'_>,
     parser: &mut Parser<'_>,
-    here: Spot,
-    operator: Sight<'_>,
+    here: SourcePosition,
+    operator: Lookahead<'_>,
     receiver: Subtree,
     index: Subtree,
     value: Subtree,
 ) -> Result<Subtree, Failure>
-    ensures gives { (q : Toks) (a i v : Tree) → operator.entry.source.now ≡ context.entry.source.now → seen_all operator.entry.rest.now ≡ q → Holds parser.old.symbols receiver a → Holds parser.old.symbols index i → Holds parser.old.symbols value v → (w : Toks) (s : Scope) → At parser.old w s → Gives Holds parser.old parser.new result (taken (at (spot_of here) (element_form context.entry.source.now a i q v)) w s) }
+    ensures gives { (q : Toks) (a i v : Tree) → operator.entry.source.now ≡ context.entry.source.now → seen_all operator.entry.rest.now ≡ q → Holds parser.old.symbols receiver a → Holds parser.old.symbols index i → Holds parser.old.symbols value v → (w : Toks) (s : Scope) → At parser.old w s → Gives Holds parser.old parser.new result (taken (at (position_of here) (element_form context.entry.source.now a i q v)) w s) }
 {
     let alloc = context.alloc;
     if operator.is_mark("=") {
@@ -153,13 +153,13 @@ fn element_form(
 fn send_element(
     context: Context<'_>,
     parser: &mut Parser<'_>,
-    here: Spot,
-    operator: Sight<'_>,
+    here: SourcePosition,
+    operator: Lookahead<'_>,
     receiver: Subtree,
     index: Subtree,
     value: Subtree,
 ) -> Result<Subtree, Failure>
-    ensures gives { (q : Toks) (a i v : Tree) → operator.entry.source.now ≡ context.entry.source.now → seen_all operator.entry.rest.now ≡ q → Holds parser.old.symbols receiver a → Holds parser.old.symbols index i → Holds parser.old.symbols value v → (w : Toks) (s : Scope) → At parser.old w s → Gives Holds parser.old parser.new result (taken (at (spot_of here) (operate_index a i v (but_last (word context.entry.source.now q)) (line_at q))) w s) }
+    ensures gives { (q : Toks) (a i v : Tree) → operator.entry.source.now ≡ context.entry.source.now → seen_all operator.entry.rest.now ≡ q → Holds parser.old.symbols receiver a → Holds parser.old.symbols index i → Holds parser.old.symbols value v → (w : Toks) (s : Scope) → At parser.old w s → Gives Holds parser.old parser.new result (taken (at (position_of here) (operate_index a i v (but_last (word context.entry.source.now q)) (line_at q))) w s) }
 {
     let alloc = context.alloc;
     let line = operator.line_at();

@@ -2,20 +2,20 @@
 ghost use Rattle.std.specs.Prelude.{◌≡◌};
 ghost use Rattle.ruby_lexer.specs.Pieces.{Toks, seen_all};
 ghost use Rattle.ruby_tree.specs.Tree.{Tree};
-ghost use Rattle.ruby_tree.specs.Rules.{Scope, spot, word, but_last};
-ghost use Rattle.ruby_tree.specs.Spots.{spot_of};
-ghost use Rattle.ruby_sight.specs.Sights.{do_of};
-ghost use Rattle.ruby_parts.specs.Subtrees.{IsNamed, Holds};
-ghost use Rattle.list_reader.specs.Answers.{taken};
+ghost use Rattle.ruby_tree.specs.Rules.{Scope, position, word, but_last};
+ghost use Rattle.ruby_tree.specs.SourcePositions.{position_of};
+ghost use Rattle.token_lookahead.specs.Lookaheads.{do_owner_of};
+ghost use Rattle.tree_builder.specs.Subtrees.{IsNamed, Holds};
+ghost use Rattle.reference_parser.specs.Answers.{taken};
 ghost use Rattle.parse_state.specs.Standing.{At};
 ghost use Rattle.parse_state.specs.Gives.{Gives, Reads};
-ghost use Rattle.list_reader.specs.ReadStatements.{read_value};
+ghost use Rattle.reference_parser.specs.ReadStatements.{read_value};
 ghost use Rattle.parse_statements.specs.Settings.{saved_from};
 
 use parse_state::{Context, Failure, Nested, Parser};
-use ruby_parts::Subtree;
-use ruby_sight::{Do, Sight};
-use ruby_tree::{Name, Spot};
+use ruby_tree::{Name, SourcePosition};
+use token_lookahead::{DoBlockOwner, Lookahead};
+use tree_builder::Subtree;
 
 /// What is assigned: an argument or a command, and what stands in its place behind `rescue`.
 ///
@@ -26,42 +26,42 @@ pub fn value<N: Nested>(
     context: Context<'_>,
     nested: &N,
     parser: &mut Parser<'_>,
-    takes: Do,
+    do_owner: DoBlockOwner,
 ) -> Result<Subtree, Failure>
     requires { N.IsReady nested.now }
-    ensures reads { Reads Holds parser.old parser.new result (read_value context.entry.source.now (N.readers nested.now context.entry.source.now) (do_of takes)) }
+    ensures reads { Reads Holds parser.old parser.new result (read_value context.entry.source.now (N.readers nested.now context.entry.source.now) (do_owner_of do_owner)) }
 {
-    let here = parser.sight(context).spot();
-    let tried = nested.whole(context, parser, takes)?;
+    let here = parser.lookahead(context).position();
+    let tried = nested.assigned_value(context, parser, do_owner)?;
     if parser.is_word(context, "rescue") {
-        return saved(context, nested, parser, takes, here, tried);
+        return saved(context, nested, parser, do_owner, here, tried);
     }
     Ok(tried)
 }
 
-// What stands in the place of a value that begins at the spot, behind the `rescue` here.
+// What stands in the place of a value that begins at the position, behind the `rescue` here.
 fn saved<N: Nested>(
     context: Context<'_>,
     nested: &N,
     parser: &mut Parser<'_>,
-    takes: Do,
-    here: Spot,
+    do_owner: DoBlockOwner,
+    here: SourcePosition,
     tried: Subtree,
 ) -> Result<Subtree, Failure>
     requires { N.IsReady nested.now }
-    ensures reads { (o : Toks) (a : Tree) → spot_of here ≡ spot o → Holds parser.old.symbols tried a → Reads Holds parser.old parser.new result (saved_from (N.readers nested.now context.entry.source.now) (do_of takes) o a) }
+    ensures reads { (o : Toks) (a : Tree) → position_of here ≡ position o → Holds parser.old.symbols tried a → Reads Holds parser.old parser.new result (saved_from (N.readers nested.now context.entry.source.now) (do_owner_of do_owner) o a) }
 {
-    let clause = parser.sight(context).spot();
+    let clause = parser.lookahead(context).position();
     let in_clause = parser.in_clause;
     parser.bump();
-    let behind = parser.sight(context).spot();
+    let behind = parser.lookahead(context).position();
     parser.enter_clause();
-    let saved = nested.argument(context, parser, takes)?;
+    let saved = nested.argument(context, parser, do_owner)?;
     parser.go_behind(in_clause);
-    Ok(ruby_parts::rescued(context.alloc, here, clause, behind, tried, saved)?)
+    Ok(tree_builder::rescued(context.alloc, here, clause, behind, tried, saved)?)
 }
 
-/// The name of the operator that an assignment sends: its mark, which is the first token of the sight, without the `=`.
+/// The name of the operator that an assignment sends: its mark, which is the first token of the lookahead, without the `=`.
 ///
 /// # Errors
 ///
@@ -69,7 +69,7 @@ fn saved<N: Nested>(
 pub fn operator_name(
     context: Context<'_>,
     parser: &mut Parser<'_>,
-    operator: Sight<'_>,
+    operator: Lookahead<'_>,
 ) -> Result<Name, Failure>
     ensures gives { (q : Toks) → operator.entry.source.now ≡ context.entry.source.now → seen_all operator.entry.rest.now ≡ q → (w : Toks) (s : Scope) → At parser.old w s → Gives IsNamed parser.old parser.new result (taken (but_last (word context.entry.source.now q)) w s) }
 {

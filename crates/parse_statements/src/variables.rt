@@ -4,24 +4,24 @@ ghost use Rattle.ruby_lexer.specs.Bytes.{Bytes};
 ghost use Rattle.ruby_lexer.specs.Pieces.{Toks, seen_all};
 ghost use Rattle.ruby_tree.specs.Names.{Texts};
 ghost use Rattle.ruby_tree.specs.Tree.{Goal, Tree, at, assign, both, either};
-ghost use Rattle.ruby_tree.specs.Rules.{Scope, spot, spot_with, word, goal_at, declared, but_last};
+ghost use Rattle.ruby_tree.specs.Rules.{Scope, position, position_with, word, goal_at, declared, but_last};
 ghost use Rattle.ruby_tree.specs.Build.{one, sent, read_form};
-ghost use Rattle.ruby_tree.specs.Spots.{spot_of};
-ghost use Rattle.ruby_sight.specs.Sights.{do_of, goal_with};
-ghost use Rattle.ruby_parts.specs.Subtrees.{IsNamed, IsTarget, Holds};
-ghost use Rattle.list_reader.specs.Answers.{taken};
-ghost use Rattle.list_reader.specs.ReadStatements.{set_by, variable_form};
+ghost use Rattle.ruby_tree.specs.SourcePositions.{position_of};
+ghost use Rattle.token_lookahead.specs.Lookaheads.{do_owner_of, goal_with};
+ghost use Rattle.tree_builder.specs.Subtrees.{IsNamed, IsTarget, Holds};
+ghost use Rattle.reference_parser.specs.Answers.{taken};
+ghost use Rattle.reference_parser.specs.ReadStatements.{set_by, variable_form};
 ghost use Rattle.parse_state.specs.Standing.{At};
 ghost use Rattle.parse_state.specs.Gives.{Gives, Reads, HoldsNothing};
 
 use crate::values::{operator_name, value};
 use bs_outside::NoMemory;
-use parse_items::target;
-use parse_state::{Context, Failure, Nested, Parser, spot_with};
-use ruby_parts::{Subtree, Subtrees, assign, both, either, read_form, sent};
-use ruby_sight::{Do, Settable, Sight};
-use ruby_tree::{Name, Spot, Target};
+use parse_parts::target;
+use parse_state::{Context, Failure, Nested, Parser, position_with};
+use ruby_tree::{Name, SourcePosition, Target};
 use std::alloc::Global;
+use token_lookahead::{DoBlockOwner, Lookahead, Settable};
+use tree_builder::{Subtree, Subtrees, assign, both, either, read_form, sent};
 
 /// A variable or a constant that is set, by the second token.
 ///
@@ -32,14 +32,14 @@ pub fn variable<N: Nested>(
     context: Context<'_>,
     nested: &N,
     parser: &mut Parser<'_>,
-    takes: Do,
+    do_owner: DoBlockOwner,
 ) -> Result<Subtree, Failure>
     requires { N.IsReady nested.now }
-    ensures reads { Reads Holds parser.old parser.new result (λ w s. set_by context.entry.source.now (N.readers nested.now context.entry.source.now) (do_of takes) w s (goal_at context.entry.source.now w)) }
+    ensures reads { Reads Holds parser.old parser.new result (λ w s. set_by context.entry.source.now (N.readers nested.now context.entry.source.now) (do_owner_of do_owner) w s (goal_at context.entry.source.now w)) }
 {
-    match parser.sight(context).goal() {
-        Some(settable) => set_variable(context, nested, parser, takes, settable),
-        None => set_constant(context, nested, parser, takes),
+    match parser.lookahead(context).goal() {
+        Some(settable) => set_variable(context, nested, parser, do_owner, settable),
+        None => set_constant(context, nested, parser, do_owner),
     }
 }
 
@@ -48,19 +48,19 @@ fn set_variable<N: Nested>(
     context: Context<'_>,
     nested: &N,
     parser: &mut Parser<'_>,
-    takes: Do,
+    do_owner: DoBlockOwner,
     settable: Settable,
 ) -> Result<Subtree, Failure>
     requires { N.IsReady nested.now }
-    ensures reads { Reads Holds parser.old parser.new result (λ w s. set_by context.entry.source.now (N.readers nested.now context.entry.source.now) (do_of takes) w s (Some (goal_with (word context.entry.source.now w) settable))) }
+    ensures reads { Reads Holds parser.old parser.new result (λ w s. set_by context.entry.source.now (N.readers nested.now context.entry.source.now) (do_owner_of do_owner) w s (Some (goal_with (word context.entry.source.now w) settable))) }
 {
-    let here = parser.sight(context).spot();
+    let here = parser.lookahead(context).position();
     let target = target(context, parser, settable)?;
     declare_if(context, parser, settable)?;
     parser.bump();
-    let operator = parser.sight(context);
+    let operator = parser.lookahead(context);
     parser.bump();
-    let value = value(context, nested, parser, takes)?;
+    let value = value(context, nested, parser, do_owner)?;
     variable_form(context, parser, here, operator, target, value)
 }
 
@@ -84,29 +84,29 @@ fn set_constant<N: Nested>(
     context: Context<'_>,
     nested: &N,
     parser: &mut Parser<'_>,
-    takes: Do,
+    do_owner: DoBlockOwner,
 ) -> Result<Subtree, Failure>
     requires { N.IsReady nested.now }
-    ensures reads { Reads Holds parser.old parser.new result (λ w s. set_by context.entry.source.now (N.readers nested.now context.entry.source.now) (do_of takes) w s None) }
+    ensures reads { Reads Holds parser.old parser.new result (λ w s. set_by context.entry.source.now (N.readers nested.now context.entry.source.now) (do_owner_of do_owner) w s None) }
 {
-    let here = parser.sight(context).spot();
+    let here = parser.lookahead(context).position();
     let name = parser.word_name(context)?;
     parser.bump();
     parser.bump();
-    let value = value(context, nested, parser, takes)?;
+    let value = value(context, nested, parser, do_owner)?;
     Ok(assign(context.alloc, here, value, Target::Constant(name))?)
 }
 
-// What the operator, which is the first token of its sight, makes of a variable and a value. The variable stands at the spot.
+// What the operator, which is the first token of its lookahead, makes of a variable and a value. The variable stands at the position.
 fn variable_form(
     context: Context<'_>,
     parser: &mut Parser<'_>,
-    here: Spot,
-    operator: Sight<'_>,
+    here: SourcePosition,
+    operator: Lookahead<'_>,
     target: Target,
     value: Subtree,
 ) -> Result<Subtree, Failure>
-    ensures gives { (o q : Toks) (g : Goal) (v : Tree) → spot_of here ≡ spot o → operator.entry.source.now ≡ context.entry.source.now → seen_all operator.entry.rest.now ≡ q → IsTarget parser.old.symbols target g → Holds parser.old.symbols value v → (w : Toks) (s : Scope) → At parser.old w s → Gives Holds parser.old parser.new result (taken (at (spot o) (variable_form context.entry.source.now g o q v)) w s) }
+    ensures gives { (o q : Toks) (g : Goal) (v : Tree) → position_of here ≡ position o → operator.entry.source.now ≡ context.entry.source.now → seen_all operator.entry.rest.now ≡ q → IsTarget parser.old.symbols target g → Holds parser.old.symbols value v → (w : Toks) (s : Scope) → At parser.old w s → Gives Holds parser.old parser.new result (taken (at (position o) (variable_form context.entry.source.now g o q v)) w s) }
 {
     let alloc = context.alloc;
     if operator.is_mark("=") {
@@ -122,8 +122,13 @@ fn variable_form(
 }
 
 // `x ||= v`
-fn assign_or(alloc: Global, here: Spot, target: Target, value: Subtree) -> Result<Subtree, NoMemory>
-    ensures made { (T : Texts) (g : Goal) (v : Tree) → IsTarget T target g → Holds T value v → IfOk result (λ part. Holds T part (at (spot_of here) (either (at (spot_of here) (read_form g)) (at (spot_of here) (assign v g))))) }
+fn assign_or(
+    alloc: Global,
+    here: SourcePosition,
+    target: Target,
+    value: Subtree,
+) -> Result<Subtree, NoMemory>
+    ensures made { (T : Texts) (g : Goal) (v : Tree) → IsTarget T target g → Holds T value v → IfOk result (λ part. Holds T part (at (position_of here) (either (at (position_of here) (read_form g)) (at (position_of here) (assign v g))))) }
 {
     let reading = read_form(alloc, here, target)?;
     let setting = assign(alloc, here, value, target)?;
@@ -133,11 +138,11 @@ fn assign_or(alloc: Global, here: Spot, target: Target, value: Subtree) -> Resul
 // `x &&= v`
 fn assign_and(
     alloc: Global,
-    here: Spot,
+    here: SourcePosition,
     target: Target,
     value: Subtree,
 ) -> Result<Subtree, NoMemory>
-    ensures made { (T : Texts) (g : Goal) (v : Tree) → IsTarget T target g → Holds T value v → IfOk result (λ part. Holds T part (at (spot_of here) (both (at (spot_of here) (read_form g)) (at (spot_of here) (assign v g))))) }
+    ensures made { (T : Texts) (g : Goal) (v : Tree) → IsTarget T target g → Holds T value v → IfOk result (λ part. Holds T part (at (position_of here) (both (at (position_of here) (read_form g)) (at (position_of here) (assign v g))))) }
 {
     let reading = read_form(alloc, here, target)?;
     let setting = assign(alloc, here, value, target)?;
@@ -148,28 +153,28 @@ fn assign_and(
 fn operate(
     context: Context<'_>,
     parser: &mut Parser<'_>,
-    here: Spot,
-    operator: Sight<'_>,
+    here: SourcePosition,
+    operator: Lookahead<'_>,
     target: Target,
     value: Subtree,
 ) -> Result<Subtree, Failure>
-    ensures gives { (o q : Toks) (g : Goal) (v : Tree) → spot_of here ≡ spot o → operator.entry.source.now ≡ context.entry.source.now → seen_all operator.entry.rest.now ≡ q → IsTarget parser.old.symbols target g → Holds parser.old.symbols value v → (w : Toks) (s : Scope) → At parser.old w s → Gives Holds parser.old parser.new result (taken (at (spot o) (assign (sent (spot_with o q) (at (spot o) (read_form g)) (but_last (word context.entry.source.now q)) (one v)) g)) w s) }
+    ensures gives { (o q : Toks) (g : Goal) (v : Tree) → position_of here ≡ position o → operator.entry.source.now ≡ context.entry.source.now → seen_all operator.entry.rest.now ≡ q → IsTarget parser.old.symbols target g → Holds parser.old.symbols value v → (w : Toks) (s : Scope) → At parser.old w s → Gives Holds parser.old parser.new result (taken (at (position o) (assign (sent (position_with o q) (at (position o) (read_form g)) (but_last (word context.entry.source.now q)) (one v)) g)) w s) }
 {
     let name = operator_name(context, parser, operator)?;
-    let spot = spot_with(here, operator);
-    Ok(operated(context.alloc, here, spot, name, target, value)?)
+    let position = position_with(here, operator);
+    Ok(operated(context.alloc, here, position, name, target, value)?)
 }
 
-// `x op= v`: the spots are those of the variable and of the operator that is sent.
+// `x op= v`: the positions are those of the variable and of the operator that is sent.
 fn operated(
     alloc: Global,
-    here: Spot,
-    call: Spot,
+    here: SourcePosition,
+    call: SourcePosition,
     operator: Name,
     target: Target,
     value: Subtree,
 ) -> Result<Subtree, NoMemory>
-    ensures made { (T : Texts) (g : Goal) (v : Tree) (f : Bytes) → IsTarget T target g → Holds T value v → IsNamed T operator f → IfOk result (λ part. Holds T part (at (spot_of here) (assign (sent (spot_of call) (at (spot_of here) (read_form g)) f (one v)) g))) }
+    ensures made { (T : Texts) (g : Goal) (v : Tree) (f : Bytes) → IsTarget T target g → Holds T value v → IsNamed T operator f → IfOk result (λ part. Holds T part (at (position_of here) (assign (sent (position_of call) (at (position_of here) (read_form g)) f (one v)) g))) }
 {
     let reading = read_form(alloc, here, target)?;
     let arguments = Subtrees::one(alloc, value)?;

@@ -3,13 +3,13 @@ use Rattle.std.proofs.Common.{◌≡◌, List, [], ◌∷◌, ◌++◌, Bool, tr
 use Rattle.std.proofs.lemmas.Grind.{reverse_onto}
 use Rattle.ruby_lexer.specs.declared.token.Token.{Token}
 use Rattle.ruby_lexer.specs.Cut.{closes, with_blank, begins_with_name, has_blank}
-use Rattle.ruby_lexer.specs.declared.gather.Raw.{Raw}
+use Rattle.ruby_lexer.specs.declared.gather.PendingToken.{PendingToken}
 use Rattle.ruby_lexer.specs.Bytes.{Bytes}
 use Rattle.ruby_lexer.specs.Pieces.{Tok, tok, Toks, none, more, seen, seen_all}
 use Rattle.ruby_lexer.specs.Settle.{put_raw, settle, onto, tok_with_blank, tok_name, closes_before}
 use Rattle.ruby_lexer.proofs.Lists.{and_left, and_right}
 
-pub settle_push : (text : Bytes) (xs : List Raw) (x : Raw) (ts : Toks) → settle text (xs ++ x ∷ []) ts ≡ settle text xs (put_raw text x.is_line (seen x.token) ts)
+pub settle_push : (text : Bytes) (xs : List PendingToken) (x : PendingToken) (ts : Toks) → settle text (xs ++ x ∷ []) ts ≡ settle text xs (put_raw text x.is_line (seen x.token) ts)
 settle_push text [] x ts = refl
 settle_push text (y ∷ xs) x ts = ap (put_raw text y.is_line (seen y.token)) (settle_push text xs x ts)
 
@@ -55,7 +55,7 @@ blank_tok b (tok k from to line c) ts = refl
 pub name_first : (t : Tok) (ts : Toks) → begins_with_name (more t ts) ≡ tok_name t
 name_first (tok k from to line b) ts = refl
 
-pub settle_none : (text : Bytes) (xs : List Raw) (x : Raw) (ts : Toks) → (x.is_line && closes text ts) ≡ true → settle text (xs ++ x ∷ []) ts ≡ settle text xs (with_blank (has_blank (seen x.token)) ts)
+pub settle_none : (text : Bytes) (xs : List PendingToken) (x : PendingToken) (ts : Toks) → (x.is_line && closes text ts) ≡ true → settle text (xs ++ x ∷ []) ts ≡ settle text xs (with_blank (has_blank (seen x.token)) ts)
 settle_none text xs x ts h =
     let line : x.is_line ≡ true = and_left x.is_line (closes text ts) h in
     let shut : closes text ts ≡ true = and_right x.is_line (closes text ts) h in
@@ -65,7 +65,7 @@ kept : (text : Bytes) (b : Bool) (t : Tok) (ts : Toks) → (b && closes text ts)
 kept text true t ts h = rw h
 kept text false t ts h = refl
 
-pub settle_kept : (text : Bytes) (xs : List Raw) (x : Raw) (ts : Toks) → (x.is_line && closes text ts) ≡ false → settle text (xs ++ x ∷ []) ts ≡ settle text xs (more (seen x.token) ts)
+pub settle_kept : (text : Bytes) (xs : List PendingToken) (x : PendingToken) (ts : Toks) → (x.is_line && closes text ts) ≡ false → settle text (xs ++ x ∷ []) ts ≡ settle text xs (more (seen x.token) ts)
 settle_kept text xs x ts h = settle_push text xs x ts ∙ ap (settle text xs) (kept text x.is_line (seen x.token) ts h)
 
 pub closes_more : (text : Bytes) (t : Tok) (ts : Toks) → closes text (more t ts) ≡ closes_before text t (begins_with_name ts)

@@ -6,11 +6,11 @@ use Rattle.ruby_lexer.specs.Bytes.{Bytes}
 use Rattle.ruby_lexer.specs.Pieces.{Toks}
 use Rattle.ruby_lexer.specs.Forms.{newlines, line_of}
 use Rattle.ruby_lexer.specs.Cut.{Cuts, cutter, at_start}
-use Rattle.ruby_lexer.specs.Tokens.{before_end, IsText, ReadFront, AreTokens, FaultLine, long, no_utf8, stops, IsFront, HasNoTokens}
+use Rattle.ruby_lexer.specs.Tokens.{before_end, IsText, ReadTokenPrefix, AreTokens, FaultLine, long, no_utf8, stops, IsFront, HasNoTokens}
 use Rattle.ruby_lexer.specs.Reading.{AllRead}
 use Rattle.ruby_lexer.proofs.Whole.{front_is, front_only}
 
-front_of : (bytes : Bytes) (ts : Toks) → AreTokens bytes ts → ReadFront bytes
+front_of : (bytes : Bytes) (ts : Toks) → AreTokens bytes ts → ReadTokenPrefix bytes
 front_of bytes ts a = record { tokens = ts; state = a.state; rest = []; cuts = a.cuts; nothing = λ k q f. f }
 
 front_of-rest : (bytes : Bytes) (ts : Toks) (a : AreTokens bytes ts) → (front_of bytes ts a).rest ≡ []
@@ -22,7 +22,7 @@ unfolding front_of
 front_of-tokens bytes ts a = refl
 
 -- two fronts of a text are one
-pub same_front : (bytes : Bytes) (f g : ReadFront bytes) → (f.tokens ≡ g.tokens) × (f.rest ≡ g.rest)
+pub same_front : (bytes : Bytes) (f g : ReadTokenPrefix bytes) → (f.tokens ≡ g.tokens) × (f.rest ≡ g.rest)
 same_front bytes f g =
     let same = sym (front_only (before_end bytes) 200 f) ∙ front_only (before_end bytes) 200 g in
     (ap (λ (x : Toks × Bytes). x.0) same, ap (λ (x : Toks × Bytes). x.1) same)
@@ -31,7 +31,7 @@ pub one_list : (bytes : Bytes) (ts us : Toks) → AreTokens bytes ts → AreToke
 one_list bytes ts us a b =
     sym (front_of-tokens bytes ts a) ∙ (same_front bytes (front_of bytes ts a) (front_of bytes us b)).0 ∙ front_of-tokens bytes us b
 
-not_both : (bytes : Bytes) (ts : Toks) (f : ReadFront bytes) → AreTokens bytes ts → f.rest ≢ [] → ⊥
+not_both : (bytes : Bytes) (ts : Toks) (f : ReadTokenPrefix bytes) → AreTokens bytes ts → f.rest ≢ [] → ⊥
 not_both bytes ts f a h = h ((same_front bytes f (front_of bytes ts a)).1 ∙ front_of-rest bytes ts a)
 
 pub apart : (bytes : Bytes) (ts : Toks) (n : ℕ) → AreTokens bytes ts → FaultLine bytes n → ⊥
@@ -59,11 +59,11 @@ one_line bytes m n (stops t f g) (long h) = absurd (omega (arith, t.short))
 one_line bytes m n (stops t f g) (no_utf8 s u v) = absurd (u t.utf8)
 one_line bytes m n (stops t f g) (stops t' f' g') = ap (line_of (before_end bytes)) (same_front bytes f f').1
 
-pub tokens_of_front : (bytes : Bytes) (f : ReadFront bytes) → IsText bytes → f.rest ≡ [] → AreTokens bytes f.tokens
+pub tokens_of_front : (bytes : Bytes) (f : ReadTokenPrefix bytes) → IsText bytes → f.rest ≡ [] → AreTokens bytes f.tokens
 tokens_of_front bytes f t e =
     record { is_text = t; state = f.state; cuts = subst (λ (r : Bytes). Cuts (before_end bytes) (cutter (before_end bytes) 200) at_start (before_end bytes) f.tokens f.state r) e f.cuts }
 
-either_way : (bytes : Bytes) (f : ReadFront bytes) (r : Bytes) → f.rest ≡ r → IsText bytes → ((ts : Toks) × AreTokens bytes ts) ⊎ ((n : ℕ) × FaultLine bytes n)
+either_way : (bytes : Bytes) (f : ReadTokenPrefix bytes) (r : Bytes) → f.rest ≡ r → IsText bytes → ((ts : Toks) × AreTokens bytes ts) ⊎ ((n : ℕ) × FaultLine bytes n)
 either_way bytes f [] e t = inl (f.tokens, tokens_of_front bytes f t e)
 either_way bytes f (b ∷ r) e t = inr (line_of (before_end bytes) f.rest, stops t f (λ h. let g : [] ≡ b ∷ r = sym h ∙ e in cc))
 
@@ -71,15 +71,15 @@ pub either : (bytes : Bytes) → IsText bytes → ((ts : Toks) × AreTokens byte
 either bytes t = either_way bytes (front_is (before_end bytes) 200) _ refl t
 
 -- where the front of a text stops before its end it has no tokens
-pub stopped : (bytes : Bytes) (f : ReadFront bytes) → IsText bytes → f.rest ≢ [] → HasNoTokens bytes (line_of (before_end bytes) f.rest)
+pub stopped : (bytes : Bytes) (f : ReadTokenPrefix bytes) → IsText bytes → f.rest ≢ [] → HasNoTokens bytes (line_of (before_end bytes) f.rest)
 stopped bytes f t h = record { none = λ ts a. not_both bytes ts f a h; fault = stops t f h }
 
 pub faulty : (bytes : Bytes) (n : ℕ) → FaultLine bytes n → HasNoTokens bytes n
 faulty bytes n f = record { none = λ ts a. apart bytes ts n a f; fault = f }
 
 -- what the reader gave is the front
-pub read_front : (bytes : Bytes) (ts : Toks) (fault : Option ℕ) → IsText bytes → AllRead (before_end bytes) ts fault → IsFront bytes ts fault
-read_front bytes ts fault t a =
+pub read_token_prefix : (bytes : Bytes) (ts : Toks) (fault : Option ℕ) → IsText bytes → AllRead (before_end bytes) ts fault → IsFront bytes ts fault
+read_token_prefix bytes ts fault t a =
     let f = front_is (before_end bytes) 200 in
     let same = sym a.is ∙ front_only (before_end bytes) 200 f in
     let rest : a.rest ≡ f.rest = ap (λ (x : Toks × Bytes). x.1) same in

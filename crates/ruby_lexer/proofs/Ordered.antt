@@ -6,7 +6,7 @@ use Rattle.std.specs.List.{list_all}
 use Rattle.ruby_lexer.specs.declared.class.Class.{Class}
 use Rattle.ruby_lexer.specs.declared.class.Class.TheVariants.{Digit, Letter, At, Dollar, SingleQuote, DoubleQuote, Colon, Percent, Equals, Sign, Operator, Single, Semicolon, LineEnd, Space, Return, Backslash, Hash, Other}
 use Rattle.ruby_lexer.specs.declared.state.State.{State}
-use Rattle.ruby_lexer.specs.declared.state.Before.{Before}
+use Rattle.ruby_lexer.specs.declared.state.WordContext.{WordContext}
 use Rattle.ruby_lexer.specs.Bytes.{Bytes, is_small, is_letter, is_word, is_inline, begins, begins_with, run, starts, from_first, taken}
 use Rattle.ruby_lexer.specs.Pieces.{Kind, mark, variable, global, label, symbol, ends, plain, Piece, blank, comment, token}
 use Rattle.ruby_lexer.specs.Words.{word_at, word_kind, with_rest, label_at, name_of, after_name, one_colon, variable_at, global_at, is_special, tail_length}
@@ -43,7 +43,7 @@ kind_later : (k : Piece) (r q : Bytes) (o : Option Kind) → length r < length q
 kind_later k r q None h = tt
 kind_later k r q (Some j) h = less_later k (token j) r q h
 
-label_later : (before : Before) (w : Bytes) → Later (label_at w) (word_at before w)
+label_later : (before : WordContext) (w : Bytes) → Later (label_at w) (word_at before w)
 unfolding label_at word_at
 label_later before w =
     later_if (one_colon (after_name w)) _ _ _
@@ -75,7 +75,7 @@ list_later w =
     found (Some r) e =
         before_second (pair (token (list_kind (get_or w 0 0) (word_list (cells (taken (drop 2 w) r))))) (drop 1 r)) 61 w (omega (arith, length-drop 1 r, starts_fits (93 ∷ []) r (first_starts (93 ∷ []) (drop 2 w) r e), first_le (93 ∷ []) (drop 2 w) r e, length-drop 2 w, length-drop 1 w))
 
-unary_later : (before : Before) (w : Bytes) → AllLater (unary_name_at before w) (with_second 61 w)
+unary_later : (before : WordContext) (w : Bytes) → AllLater (unary_name_at before w) (with_second 61 w)
 unary_later before w =
     by_test (is_method_name before && begins_with 64 w)
     (λ h. rw h (if_later (begins_with 61 w) (Some (token mark, drop 1 w)) None (Some (token mark, drop 1 w)) (λ _. (omega arith, λ _. refl)) (λ _. tt), (less_later (token mark) (token mark) (drop 1 w) w (drop_one w (begins_some (λ c. nat_eq c 64) w (and_right (is_method_name before) (begins_with 64 w) h))), tt)))
@@ -258,7 +258,7 @@ block_short fresh b w = short_if _ (fresh && starts (codes "=begin") (b ∷ w)) 
     found None e = tt
     found (Some r) e = omega (arith, comment_short r (first_starts (10 ∷ codes "=end") (b ∷ w) r e), first_le (10 ∷ codes "=end") (b ∷ w) r e)
 
-unary_short : (before : Before) (w : Bytes) → Short (length w) (unary_name_at before w)
+unary_short : (before : WordContext) (w : Bytes) → Short (length w) (unary_name_at before w)
 unary_short before w = short_if _ (is_method_name before && begins_with 64 w) (Some (token mark, drop 1 w)) None (λ _. drop_le 1 w) (λ _. tt)
 
 colon_short : (w : Bytes) → AllShort (length w) (colon_forms w)
@@ -269,7 +269,7 @@ colon_short w =
     (λ _. all_short_if _ (begins is_letter w) _ _ (λ _. (short_if _ (begins is_small w && begins_with 61 (after_name w)) (Some (token (symbol (name_of w ++ 61 ∷ [])), drop 1 (after_name w))) None (λ _. omega (arith, drop_le 1 (after_name w), after_short w, drop_le 1 w)) (λ _. tt), (omega (arith, after_short w, drop_le 1 w), tt)))
     (λ _. symbols_short w method_operators)))
 
-letter_short : (before : Before) (b : ℕ) (w : Bytes) → Short (length w) (label_at (b ∷ w)) × Short (length w) (word_at before (b ∷ w))
+letter_short : (before : WordContext) (b : ℕ) (w : Bytes) → Short (length w) (label_at (b ∷ w)) × Short (length w) (word_at before (b ∷ w))
 unfolding label_at word_at
 letter_short before b w = (
   short_if _ (one_colon (after_name (b ∷ w))) (Some (token (label (plain (name_of (b ∷ w)) ends)), drop 1 (after_name (b ∷ w)))) None (λ _. omega (arith, drop_le 1 (after_name (b ∷ w)), after_short (b ∷ w))) (λ _. tt),

@@ -1,11 +1,11 @@
 -- The turns of the loops.
 use Rattle.std.proofs.Common.{◌≡◌, ℕ, zero, suc, ◌-◌, ◌≤◌, ◌<◌, List, [], ◌∷◌, ◌++◌, length, drop, get_or, Bool, true, false, refl, sym, ap, ◌∙◌, arith, if◌then◌else◌, Option, Some, None, nat_eq, length-drop}
 use Rattle.ruby_lexer.specs.declared.token.Part.{Part}
-use Rattle.ruby_lexer.specs.declared.gather.Raw.{Raw}
+use Rattle.ruby_lexer.specs.declared.gather.PendingToken.{PendingToken}
 use Rattle.ruby_lexer.specs.declared.state.State.{State}
 use Rattle.ruby_lexer.specs.Bytes.{Bytes, begins_with, same, taken as gone}
 use Rattle.std.specs.Prelude.{codes}
-use Rattle.ruby_lexer.specs.declared.state.Before.TheVariants.{Plain}
+use Rattle.ruby_lexer.specs.declared.state.WordContext.TheVariants.{Plain}
 use Rattle.ruby_lexer.specs.Pieces.{Kind, mark, Parts, ends, plain, code, Toks, none, Piece, blank, comment, line_end, token, seen_part, seen_parts}
 use Rattle.ruby_lexer.specs.Texts.{escape, plain_parts}
 use Rattle.ruby_lexer.specs.Forms.{add_byte, add_bytes, opens_code, Begins}
@@ -160,7 +160,7 @@ piece_left text n s w k q e =
     piece_short text (cutter text n) (coder text n) (coding text n) s w k q (each_some (Begins text (cutter text n) s w) (scan_piece text (coder text n) s w) k q (begins_is text (cutter text n) (coder text n) (coding text n) s w) e)
 
 -- what was read so far of the code of a literal, before what is left
-pub record CodeTurn (text : Bytes) (Q : Coder) (whole w : Bytes) (raws : List Raw) (s : State) : Type 0 where
+pub record CodeTurn (text : Bytes) (Q : Coder) (whole w : Bytes) (raws : List PendingToken) (s : State) : Type 0 where
   pub turns : ℕ
   pub room : length w < turns
   pub is : scan_code text Q (suc (length whole)) in_code whole ≡ with_first (settle text raws) (scan_code text Q turns s w)
@@ -187,7 +187,7 @@ unfolding scan_code ◌>>=◌
 code_stops text Q zero s w h e = refl
 code_stops text Q (suc m) s w h e = rw (h, e)
 
-pub code_turn : (text : Bytes) (Q : Coder) (whole w : Bytes) (raws new : List Raw) (s : State) (k : Piece) (q : Bytes) → CodeTurn text Q whole w raws s → ends_code s w ≡ false → scan_piece text Q s w ≡ Some (k, q) → length q < length w → ((ts : Toks) → settle text new ts ≡ settle text raws (put text s k w q ts)) → CodeTurn text Q whole q new (after s k (gone w q))
+pub code_turn : (text : Bytes) (Q : Coder) (whole w : Bytes) (raws new : List PendingToken) (s : State) (k : Piece) (q : Bytes) → CodeTurn text Q whole w raws s → ends_code s w ≡ false → scan_piece text Q s w ≡ Some (k, q) → length q < length w → ((ts : Toks) → settle text new ts ≡ settle text raws (put text s k w q ts)) → CodeTurn text Q whole q new (after s k (gone w q))
 code_turn text Q whole w raws new s k q t h e less is =
     record {
       turns = t.turns - 1;
@@ -195,10 +195,10 @@ code_turn text Q whole w raws new s k q t h e less is =
       is = t.is ∙ ap (with_first (settle text raws)) (code_step text Q t.turns s w k q t.room h e) ∙ with_first_twice _ _ (scan_code text Q (t.turns - 1) (after s k (gone w q)) q) ∙ with_first_same _ _ (scan_code text Q (t.turns - 1) (after s k (gone w q)) q) (λ ts. sym (is ts));
     }
 
-pub code_done : (text : Bytes) (Q : Coder) (whole w : Bytes) (raws : List Raw) (s : State) → CodeTurn text Q whole w raws s → ends_code s w ≡ true → scan_code text Q (suc (length whole)) in_code whole ≡ Some (settle text raws none, w)
+pub code_done : (text : Bytes) (Q : Coder) (whole w : Bytes) (raws : List PendingToken) (s : State) → CodeTurn text Q whole w raws s → ends_code s w ≡ true → scan_code text Q (suc (length whole)) in_code whole ≡ Some (settle text raws none, w)
 code_done text Q whole w raws s t h = t.is ∙ ap (with_first (settle text raws)) (code_ends text Q t.turns s w t.room h)
 
-pub code_fails : (text : Bytes) (Q : Coder) (whole w : Bytes) (raws : List Raw) (s : State) → CodeTurn text Q whole w raws s → ends_code s w ≡ false → scan_piece text Q s w ≡ None → scan_code text Q (suc (length whole)) in_code whole ≡ None
+pub code_fails : (text : Bytes) (Q : Coder) (whole w : Bytes) (raws : List PendingToken) (s : State) → CodeTurn text Q whole w raws s → ends_code s w ≡ false → scan_piece text Q s w ≡ None → scan_code text Q (suc (length whole)) in_code whole ≡ None
 code_fails text Q whole w raws s t h e = t.is ∙ ap (with_first (settle text raws)) (code_stops text Q t.turns s w h e)
 
 pub at_coder : (text : Bytes) (n : ℕ) (w : Bytes) → 0 < n → coder text n w ≡ scan_code text (coder text (n - 1)) (suc (length w)) in_code w
@@ -215,7 +215,7 @@ at_no_coder text w (suc n) h = absurd (omega arith)
 abbrev pub with_all : (Toks → Toks) → Toks × Bytes → Toks × Bytes
 with_all g p = (g p.0, p.1)
 
-pub record AllTurn (text : Bytes) (Q : Coder) (w : Bytes) (raws : List Raw) (s : State) : Type 0 where
+pub record AllTurn (text : Bytes) (Q : Coder) (w : Bytes) (raws : List PendingToken) (s : State) : Type 0 where
   pub turns : ℕ
   pub room : length w < turns
   pub is : scan_all text Q (suc (length text)) at_start text ≡ with_all (settle text raws) (scan_all text Q turns s w)
@@ -233,7 +233,7 @@ unfolding scan_all
 all_stops text Q zero s w e = refl
 all_stops text Q (suc m) s w e = rw e
 
-pub all_turn : (text : Bytes) (Q : Coder) (w : Bytes) (raws new : List Raw) (s : State) (k : Piece) (q : Bytes) → AllTurn text Q w raws s → scan_piece text Q s w ≡ Some (k, q) → length q < length w → ((ts : Toks) → settle text new ts ≡ settle text raws (put text s k w q ts)) → AllTurn text Q q new (after s k (gone w q))
+pub all_turn : (text : Bytes) (Q : Coder) (w : Bytes) (raws new : List PendingToken) (s : State) (k : Piece) (q : Bytes) → AllTurn text Q w raws s → scan_piece text Q s w ≡ Some (k, q) → length q < length w → ((ts : Toks) → settle text new ts ≡ settle text raws (put text s k w q ts)) → AllTurn text Q q new (after s k (gone w q))
 all_turn text Q w raws new s k q t e less is =
     record {
       turns = t.turns - 1;
@@ -244,7 +244,7 @@ all_turn text Q w raws new s k q t e less is =
     pair_toks : Toks → Bytes → Toks × Bytes
     pair_toks ts r = (ts, r)
 
-pub all_done : (text : Bytes) (Q : Coder) (w : Bytes) (raws : List Raw) (s : State) → AllTurn text Q w raws s → scan_piece text Q s w ≡ None → scan_all text Q (suc (length text)) at_start text ≡ (settle text raws none, w)
+pub all_done : (text : Bytes) (Q : Coder) (w : Bytes) (raws : List PendingToken) (s : State) → AllTurn text Q w raws s → scan_piece text Q s w ≡ None → scan_all text Q (suc (length text)) at_start text ≡ (settle text raws none, w)
 all_done text Q w raws s t e = t.is ∙ ap (with_all (settle text raws)) (all_stops text Q t.turns s w e)
 
 -- how far the braces grow

@@ -4,7 +4,7 @@ use Rattle.std.proofs.lemmas.Bool.{eqb-true}
 use Rattle.ruby_lexer.specs.declared.class.Class.{Class}
 use Rattle.ruby_lexer.specs.declared.class.Class.TheVariants.{DoubleQuote, Colon}
 use Rattle.ruby_lexer.specs.declared.state.State.{State}
-use Rattle.ruby_lexer.specs.declared.state.Before.TheVariants.{Plain}
+use Rattle.ruby_lexer.specs.declared.state.WordContext.TheVariants.{Plain}
 use Rattle.ruby_lexer.specs.Bytes.{Bytes, begins_with, run, taken as gone}
 use Rattle.ruby_lexer.specs.Classes.{class_of}
 use Rattle.ruby_lexer.specs.Pieces.{Kind, mark, label, literal, symbol, Parts, Toks, none, Piece, blank, comment, line_end, token}
@@ -13,7 +13,7 @@ use Rattle.ruby_lexer.specs.Numbers.{is_hex}
 use Rattle.ruby_lexer.specs.Texts.{escape, escaped_byte, byte_with_rest, unicode_escape, digits_to_brace, encoded, scalar_value}
 use Rattle.ruby_lexer.specs.Marks.{colon_forms}
 use Rattle.ruby_lexer.specs.Forms.{Cutter, Inside, closed, escaped, nested, byte, opens_code, NoCode, IsQuoted, IsQuotedSymbol, text_of, forms, OneOf, Quoted, Begins, Longest}
-use Rattle.ruby_lexer.specs.Cut.{after, braces_of, put, Cuts, done, piece, at_start, in_code, Codes, cutter, Front}
+use Rattle.ruby_lexer.specs.Cut.{after, braces_of, put, Cuts, done, piece, at_start, in_code, Codes, cutter, TokenPrefix}
 use Rattle.ruby_lexer.specs.Scan.{Coder, ◌>>=◌, no_coder, scan_inside, scan_quoted, symbol_end, scan_symbol, scan_special, or_else, scan_form, scan_piece, ends_code, scan_code, coder, all_with, scan_all}
 use Rattle.ruby_lexer.proofs.Each.{by_test, Each, taken, nothing, each_then, each_if, each_some, each_also, each_of, each_here}
 use Rattle.ruby_lexer.proofs.Order.{Found, pair, Best, one_best, one_is, one_short}
@@ -331,11 +331,11 @@ coding text zero = record { sound = λ w. nothing; complete = λ w ts q h. absur
 coding text (suc n) = coding_up text (cutter text n) (coder text n) (coding text n)
 
 -- a front that is cut up to where nothing begins: there is one, and no other
-pub front_is : (text : Bytes) (n : ℕ) → Front text (cutter text n)
+pub front_is : (text : Bytes) (n : ℕ) → TokenPrefix text (cutter text n)
 front_is text n =
     let all = scan_all text (coder text n) (suc (length text)) at_start text in
     let cut = all_is text (cutter text n) (coder text n) (coding text n) (suc (length text)) at_start text (omega arith) in
     record { tokens = all.0; state = cut.0; rest = all.1; cuts = cut.1; nothing = cut.2 }
 
-pub front_only : (text : Bytes) (n : ℕ) (f : Front text (cutter text n)) → scan_all text (coder text n) (suc (length text)) at_start text ≡ (f.tokens, f.rest)
+pub front_only : (text : Bytes) (n : ℕ) (f : TokenPrefix text (cutter text n)) → scan_all text (coder text n) (suc (length text)) at_start text ≡ (f.tokens, f.rest)
 front_only text n f = all_only text (cutter text n) (coder text n) (coding text n) (suc (length text)) at_start text f.tokens f.state f.rest f.cuts f.nothing (omega arith)

@@ -1,15 +1,15 @@
 -- How a text is cut into pieces, and which tokens they are.
 use Rattle.std.specs.Prelude.{◌≡◌, ℕ, zero, suc, ◌+◌, Bool, true, false, nat_eq, ◌&&◌, ◌||◌, not, if◌then◌else◌, slice_index, codes}
 use Rattle.ruby_lexer.specs.declared.state.State.{State}
-use Rattle.ruby_lexer.specs.declared.state.Before.{Before}
-use Rattle.ruby_lexer.specs.declared.state.Before.TheVariants.{Plain, Dot, Def}
+use Rattle.ruby_lexer.specs.declared.state.WordContext.{WordContext}
+use Rattle.ruby_lexer.specs.declared.state.WordContext.TheVariants.{Plain, Dot, Def}
 use Rattle.ruby_lexer.specs.Bytes.{Bytes, begins_with, same, taken}
 use Rattle.ruby_lexer.specs.Pieces.{Kind, name, keyword, mark, newline, Tok, tok, Toks, none, more, Piece, blank, comment, line_end, token}
 use Rattle.ruby_lexer.specs.Marks.{is_closing_mark}
 use Rattle.ruby_lexer.specs.Forms.{place, line_of, Cutter, Begins, Longest}
 
 -- what a token of the bytes f makes of the word behind it
-abbrev pub before_of : Kind → Bytes → Before
+abbrev pub before_of : Kind → Bytes → WordContext
 before_of mark f = if same f (codes ".") || same f (codes "&.") then Dot else Plain
 before_of keyword f = if same f (codes "def") then Def else Plain
 before_of _ f = Plain
@@ -109,7 +109,7 @@ cutter text zero = λ w ts q. ⊥
 cutter text (suc n) = Codes text (cutter text n)
 
 -- A front of the text that is cut into tokens, up to a place where no piece begins: its end, or its first fault.
-pub record Front (text : Bytes) (C : Cutter) : Type 0 where
+pub record TokenPrefix (text : Bytes) (C : Cutter) : Type 0 where
   pub tokens : Toks
   pub state : State
   pub rest : Bytes

@@ -1,7 +1,7 @@
 -- Operators, marks and symbols.
 use Rattle.std.specs.Prelude.{ℕ, List, [], ◌∷◌, ◌++◌, length, take, drop, map, Bool, true, false, ◌&&◌, if◌then◌else◌, Option, Some, None, codes}
-use Rattle.ruby_lexer.specs.declared.state.Before.{Before}
-use Rattle.ruby_lexer.specs.declared.state.Before.TheVariants.{Plain, Dot, Def}
+use Rattle.ruby_lexer.specs.declared.state.WordContext.{WordContext}
+use Rattle.ruby_lexer.specs.declared.state.WordContext.TheVariants.{Plain, Dot, Def}
 use Rattle.ruby_lexer.specs.Bytes.{Bytes, is_small, is_letter, begins, begins_with, starts, is_in}
 use Rattle.ruby_lexer.specs.Words.{name_of, after_name}
 use Rattle.ruby_lexer.specs.Pieces.{Kind, mark, symbol, Piece, token}
@@ -52,13 +52,13 @@ abbrev pub with_second : ℕ → Bytes → List (Option (Piece × Bytes))
 with_second c w = (if begins_with c w then Some (token mark, drop 1 w) else None) ∷ Some (token mark, w) ∷ []
 
 -- whether a name of a method stands behind it
-abbrev pub is_method_name : Before → Bool
+abbrev pub is_method_name : WordContext → Bool
 is_method_name Plain = false
 is_method_name Dot = true
 is_method_name Def = true
 
 -- behind `+` or `-`: `@`, where a name of a method stands
-abbrev pub unary_name_at : Before → Bytes → Option (Piece × Bytes)
+abbrev pub unary_name_at : WordContext → Bytes → Option (Piece × Bytes)
 unary_name_at before w = if is_method_name before && begins_with 64 w then Some (token mark, drop 1 w) else None
 
 -- behind `:`: a name with `=`, and a name or a constant

@@ -1,7 +1,7 @@
 -- Tokens before it is known which newlines among them are none.
 use Rattle.std.specs.Prelude.{List, [], ◌∷◌, Bool, true, false, ◌&&◌, ◌||◌, Option, Some, None}
 use Rattle.ruby_lexer.specs.declared.token.Token.{Token}
-use Rattle.ruby_lexer.specs.declared.gather.Raw.{Raw}
+use Rattle.ruby_lexer.specs.declared.gather.PendingToken.{PendingToken}
 use Rattle.ruby_lexer.specs.declared.token.Part.{Part}
 use Rattle.ruby_lexer.specs.Bytes.{Bytes}
 use Rattle.ruby_lexer.specs.Pieces.{Kind, symbol, Tok, tok, Toks, more, seen, Parts, seen_part}
@@ -13,7 +13,7 @@ put_raw text true t ts = put_line text t ts
 put_raw text false t ts = more t ts
 
 -- the tokens before those that follow them
-abbrev pub settle : Bytes → List Raw → Toks → Toks
+abbrev pub settle : Bytes → List PendingToken → Toks → Toks
 settle text [] ts = ts
 settle text (x ∷ xs) ts = put_raw text x.is_line (seen x.token) (settle text xs ts)
 

@@ -1,6 +1,6 @@
 -- What one step of the reader gave.
 use Rattle.std.specs.Prelude.{◌≡◌, List, drop, Bool, true, false, Option, Some, None}
-use Rattle.ruby_lexer.specs.declared.gather.Raw.{Raw}
+use Rattle.ruby_lexer.specs.declared.gather.PendingToken.{PendingToken}
 use Rattle.ruby_lexer.specs.declared.token.Part.{Part}
 use Rattle.ruby_lexer.specs.declared.state.State.{State}
 use Rattle.ruby_lexer.specs.Bytes.{Bytes, taken}
@@ -10,14 +10,14 @@ use Rattle.ruby_lexer.specs.Cut.{after, put}
 use Rattle.ruby_lexer.specs.Scan.{Coder, scan_piece}
 use Rattle.ruby_lexer.specs.Settle.{settle, parts_then}
 
-pub record Stepped (text : Bytes) (Q : Coder) (s : State) (w : Bytes) (raws : List Raw) (z : State) (new : List Raw) (r : Bytes) : Type 0 where
+pub record Stepped (text : Bytes) (Q : Coder) (s : State) (w : Bytes) (raws : List PendingToken) (z : State) (new : List PendingToken) (r : Bytes) : Type 0 where
   pub piece : Piece
   pub is : scan_piece text Q s w ≡ Some (piece, r)
   pub next : z ≡ after s piece (taken w r)
   pub raws_are : (ts : Toks) → settle text new ts ≡ settle text raws (put text s piece w r ts)
 
 -- a piece from w to r was added, and z counts behind it; or none begins at w, and nothing was added
-abbrev pub Steps : Bytes → Coder → State → Bytes → List Raw → Option State → List Raw → Bytes → Type 0
+abbrev pub Steps : Bytes → Coder → State → Bytes → List PendingToken → Option State → List PendingToken → Bytes → Type 0
 Steps text Q s w raws None new r = (scan_piece text Q s w ≡ None) × (new ≡ raws)
 Steps text Q s w raws (Some z) new r = Stepped text Q s w raws z new r
 

@@ -84,7 +84,7 @@ abbrev pub byte_with_rest : Bytes → Option ℕ → Option (Bytes × Bytes)
 byte_with_rest w None = None
 byte_with_rest w (Some b) = Some (b ∷ [], w)
 
--- What a backslash gives, before w, and what follows. Before the end of a line it gives nothing, before what is no letter and no digit that byte.
+-- What a backslash gives, before w, and what follows. WordContext the end of a line it gives nothing, before what is no letter and no digit that byte.
 unfoldable pub escape : Bytes → Option (Bytes × Bytes)
 escape [] = None
 escape (b ∷ w) =

@@ -5,7 +5,7 @@ use Rattle.ruby_lexer.specs.declared.state.State.{State}
 use Rattle.ruby_lexer.specs.Bytes.{Bytes, starts, begins_with}
 use Rattle.ruby_lexer.specs.Forms.{newlines, line_of}
 use Rattle.ruby_lexer.specs.Pieces.{Toks}
-use Rattle.ruby_lexer.specs.Cut.{Cuts, at_start, cutter, Front}
+use Rattle.ruby_lexer.specs.Cut.{Cuts, at_start, cutter, TokenPrefix}
 
 -- a line of exactly these seven bytes begins here
 abbrev pub is_end_line : Bytes → Bool
@@ -26,8 +26,8 @@ pub record IsText (bytes : Bytes) : Type 0 where
   pub utf8 : IsUtf8 bytes
 
 -- code in literals nests at most 200 deep
-abbrev pub ReadFront : Bytes → Type 0
-ReadFront bytes = Front (before_end bytes) (cutter (before_end bytes) 200)
+abbrev pub ReadTokenPrefix : Bytes → Type 0
+ReadTokenPrefix bytes = TokenPrefix (before_end bytes) (cutter (before_end bytes) 200)
 
 -- the tokens of the text
 pub record AreTokens (bytes : Bytes) (ts : Toks) : Type 0 where
@@ -41,12 +41,12 @@ pub data FaultLine (bytes : Bytes) : ℕ → Type 0 where
   -- the line of the first byte that belongs to no character
   no_utf8 : {n : ℕ} → length bytes ≤ 4194304 → (IsUtf8 bytes → ⊥) → IsValidUpTo bytes n → FaultLine bytes (suc (newlines (take n bytes)))
   -- the line of the first place at which no blank, comment or token begins
-  stops : IsText bytes → (f : ReadFront bytes) → f.rest ≢ [] → FaultLine bytes (line_of (before_end bytes) f.rest)
+  stops : IsText bytes → (f : ReadTokenPrefix bytes) → f.rest ≢ [] → FaultLine bytes (line_of (before_end bytes) f.rest)
 
 -- A front of the text and where it ends: its line, if it does not end at the end of the text.
 pub record IsFront (bytes : Bytes) (ts : Toks) (fault : Option ℕ) : Type 0 where
   pub is_text : IsText bytes
-  pub front : ReadFront bytes
+  pub front : ReadTokenPrefix bytes
   pub tokens_are : ts ≡ front.tokens
   pub ends_at : MatchOption fault (front.rest ≡ []) (λ line. (front.rest ≢ []) × (line ≡ line_of (before_end bytes) front.rest))
 

@@ -1,7 +1,7 @@
 -- Names, keywords, labels and variables.
 use Rattle.std.specs.Prelude.{ℕ, suc, ◌+◌, List, [], ◌∷◌, drop, take, Bool, false, nat_eq, ◌&&◌, ◌||◌, not, if◌then◌else◌, Option, Some, None, codes}
-use Rattle.ruby_lexer.specs.declared.state.Before.{Before}
-use Rattle.ruby_lexer.specs.declared.state.Before.TheVariants.{Plain, Dot, Def}
+use Rattle.ruby_lexer.specs.declared.state.WordContext.{WordContext}
+use Rattle.ruby_lexer.specs.declared.state.WordContext.TheVariants.{Plain, Dot, Def}
 use Rattle.ruby_lexer.specs.Bytes.{Bytes, is_small, is_capital, is_letter, is_word, begins, begins_with, run, same, is_in}
 use Rattle.ruby_lexer.specs.Pieces.{Kind, name, constant, variable, global, keyword, label, ends, plain, Piece, token}
 
@@ -38,12 +38,12 @@ unfoldable pub is_reserved : Bytes → Bool
 is_reserved f = is_in f keywords || is_in f forbidden
 
 -- What the word f is before r. Behind `.`, `&.` or `def` a reserved word is a name, but `self` between `def` and `.`.
-abbrev pub reserved_kind : Before → Bytes → Bytes → Option Kind
+abbrev pub reserved_kind : WordContext → Bytes → Bytes → Option Kind
 reserved_kind Plain f r = if is_forbidden f then None else Some keyword
 reserved_kind Dot f r = Some name
 reserved_kind Def f r = if same f (codes "self") && begins_with 46 r then Some keyword else Some name
 
-abbrev pub word_kind : Before → Bytes → Bytes → Option Kind
+abbrev pub word_kind : WordContext → Bytes → Bytes → Option Kind
 word_kind before f r =
     if is_reserved f then reserved_kind before f r
     else if begins is_capital f then Some constant
@@ -54,7 +54,7 @@ with_rest r None = None
 with_rest r (Some k) = Some (token k, r)
 
 -- a name, a constant or a keyword, whose first letter stands here
-unfoldable pub word_at : Before → Bytes → Option (Piece × Bytes)
+unfoldable pub word_at : WordContext → Bytes → Option (Piece × Bytes)
 word_at before w = with_rest (after_name w) (word_kind before (name_of w) (after_name w))
 
 -- one `:` stands here, and no second one

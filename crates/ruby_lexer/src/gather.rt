@@ -7,37 +7,37 @@ ghost use Rattle.ruby_lexer.specs.Views.{seen_piece};
 
 use crate::marks::is_closing_mark;
 use crate::piece::Piece;
-use crate::state::{Before, State};
+use crate::state::{State, WordContext};
 use crate::token::{Token, TokenKind};
 use bs_outside::Items;
 use std::alloc::{AllocError, Global};
 
 /// A token, or a newline that may be none.
 #[derive(Drop)]
-pub struct Raw {
+pub struct PendingToken {
     pub token: Token,
     pub is_line: bool,
 }
 
-fn before_of(kind: &TokenKind, bytes: &[u8]) -> Before
+fn before_of(kind: &TokenKind, bytes: &[u8]) -> WordContext
     ensures { result ≡ before_of (seen_kind kind.now) bytes.now }
 {
     match kind {
         TokenKind::Mark => {
             if bytes == b".".as_slice() || bytes == b"&.".as_slice() {
-                Before::Dot
+                WordContext::Dot
             } else {
-                Before::Plain
+                WordContext::Plain
             }
         }
         TokenKind::Keyword => {
             if bytes == b"def".as_slice() {
-                Before::Def
+                WordContext::Def
             } else {
-                Before::Plain
+                WordContext::Plain
             }
         }
-        _ => Before::Plain,
+        _ => WordContext::Plain,
     }
 }
 
@@ -104,7 +104,7 @@ fn token(kind: TokenKind, span: Span, blank: bool) -> Token
 
 /// Adds a newline that may be a token.
 #[tactic(auto, using(crate::proofs::Gathered::settle_push, std::proofs::lemmas::Grind::common_steps))]
-fn add_line(raws: &mut Vec<Raw>, state: State, span: Span) -> Result<State, AllocError>
+fn add_line(raws: &mut Vec<PendingToken>, state: State, span: Span) -> Result<State, AllocError>
     ensures next { IfOk result (λ z. z ≡ state_after_line state) }
     ensures raws { IfOk result (λ _. (text : List ℕ) (ts : Toks) → settle text raws.new.items ts ≡ settle text raws.old.items (put_at text state line_end span.from span.to span.line ts)) }
 {
@@ -112,12 +112,12 @@ fn add_line(raws: &mut Vec<Raw>, state: State, span: Span) -> Result<State, Allo
         return Ok(state);
     }
     let token = token(TokenKind::Newline, span, state.blank);
-    raws.push(Raw {
+    raws.push(PendingToken {
         token,
         is_line: true,
     })?;
     Ok(State {
-        before: Before::Plain,
+        before: WordContext::Plain,
         joins: false,
         blank: false,
         braces: state.braces,
@@ -127,7 +127,7 @@ fn add_line(raws: &mut Vec<Raw>, state: State, span: Span) -> Result<State, Allo
 /// Adds a token.
 #[tactic(auto, using(crate::proofs::Gathered::settle_push, std::proofs::lemmas::Grind::common_steps))]
 fn add_token(
-    raws: &mut Vec<Raw>,
+    raws: &mut Vec<PendingToken>,
     kind: TokenKind,
     span: Span,
     blank: bool,
@@ -135,7 +135,7 @@ fn add_token(
     ensures raws { IfOk result (λ _. (text : List ℕ) (ts : Toks) → settle text raws.new.items ts ≡ settle text raws.old.items (more (tok (seen_kind kind) span.from span.to span.line blank) ts)) }
 {
     let token = token(kind, span, blank);
-    raws.push(Raw {
+    raws.push(PendingToken {
         token,
         is_line: false,
     })?;
@@ -144,7 +144,7 @@ fn add_token(
 
 /// Adds a piece of the bytes, and says what counts behind it.
 pub fn add_piece(
-    raws: &mut Vec<Raw>,
+    raws: &mut Vec<PendingToken>,
     state: State,
     piece: Piece,
     span: Span,
@@ -271,14 +271,18 @@ fn leave_out(tokens: &mut Vec<Token>, newline: Token) -> Result<(), AllocError>
 }
 
 /// The tokens in their order, with no newline that is none.
-pub fn settled(alloc: Global, text: &[u8], mut raws: Vec<Raw>) -> Result<Items<Token>, AllocError>
+pub fn settled(
+    alloc: Global,
+    text: &[u8],
+    mut raws: Vec<PendingToken>,
+) -> Result<Items<Token>, AllocError>
     ensures { IfOk result (λ ts. seen_all ts ≡ settle text.now raws.items none) }
 {
     let mut tokens = Vec::new(alloc);
     let mut closes = false;
     let mut has_name = false;
     while let Some(raw) = raws.pop() {
-        let Raw { token, is_line } = raw;
+        let PendingToken { token, is_line } = raw;
         if is_none(is_line, closes) {
             leave_out(&mut tokens, token)?;
         } else {

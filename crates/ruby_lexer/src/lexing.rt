@@ -8,7 +8,7 @@ ghost use Rattle.ruby_lexer.specs.Tokens.{is_end_line, end_length, before_end, I
 use crate::bytes::{begins_with, starts};
 use crate::cursor::{Cursor, newlines};
 use crate::gather::settled;
-use crate::state::{Before, State};
+use crate::state::{State, WordContext};
 use crate::token::Token;
 use bs_outside::Items;
 use std::alloc::{AllocError, Global};
@@ -50,7 +50,7 @@ impl From<AllocError> for LexError {
 
 /// The tokens of a text up to its end, or up to the first place at which no piece begins.
 #[derive(Drop)]
-pub struct Front {
+pub struct TokenPrefix {
     /// The tokens before that place.
     pub tokens: Items<Token>,
     /// The line of the place, if it is not the end of the text.
@@ -96,7 +96,7 @@ fn at_start() -> State
     ensures { result ≡ at_start }
 {
     State {
-        before: Before::Plain,
+        before: WordContext::Plain,
         joins: false,
         blank: false,
         braces: 0,
@@ -105,7 +105,7 @@ fn at_start() -> State
 
 impl Cursor<'_> {
     /// The tokens from the first place on.
-    fn all(&mut self) -> Result<Front, AllocError>
+    fn all(&mut self) -> Result<TokenPrefix, AllocError>
         requires { self.old.rest.now ≡ self.old.text.now }
         ensures { IfOk result (λ f. AllRead self.old.text.now (seen_all f.tokens) f.fault) }
     {
@@ -117,7 +117,7 @@ impl Cursor<'_> {
             let Some(next) = self.step(&mut raws, state, DEPTH)? else {
                 let tokens = settled(self.alloc, self.text, raws)?;
                 let fault = if is_end { None } else { Some(line) };
-                return Ok(Front { tokens, fault });
+                return Ok(TokenPrefix { tokens, fault });
             };
             state = next;
         }
@@ -144,7 +144,7 @@ fn text_fault(text: &[u8]) -> Option<u64>
 ///
 /// # Errors
 /// `LexError::Fault` where the text has more than 4,194,304 bytes, with line 1, or is no UTF-8, with the line of its first bad byte.
-pub fn read_front(alloc: Global, text: &[u8]) -> Result<Front, LexError>
+pub fn read_token_prefix(alloc: Global, text: &[u8]) -> Result<TokenPrefix, LexError>
     ensures front { IfOk result (λ f. IsFront text.now (seen_all f.tokens) f.fault) }
     ensures fault { IfErr result (λ e. FaultsWith text.now e) }
     // So the line is 1 or that of the first bad byte.
@@ -166,7 +166,7 @@ pub fn tokens(alloc: Global, text: &[u8]) -> Result<Items<Token>, LexError>
     ensures tokens { IfOk result (λ ts. AreTokens text.now (seen_all ts)) }
     ensures fault { IfErr result (λ e. FaultsWith text.now e) }
 {
-    let front = read_front(alloc, text)?;
+    let front = read_token_prefix(alloc, text)?;
     match front.fault {
         None => Ok(front.tokens),
         Some(line) => Err(LexError::Fault(LexFault { line })),

@@ -22,8 +22,5 @@ mod token;
 mod words;
 
 pub use cursor::newlines;
-pub use lexing::{Front, LexError, LexFault, before_end, read_front, tokens};
+pub use lexing::{LexError, LexFault, TokenPrefix, before_end, read_token_prefix, tokens};
 pub use token::{Part, Token, TokenKind};
-
-#[cfg(test)]
-mod tests;

@@ -12,7 +12,7 @@ use crate::cursor::Cursor;
 use crate::marks::{mark_length, operator_length};
 use crate::numbers::number;
 use crate::piece::Piece;
-use crate::state::{Before, State};
+use crate::state::{State, WordContext};
 use crate::token::{Part, TokenKind};
 use crate::words::{
     begins_letter, begins_small, begins_special, name_length, one_colon, word_kind,
@@ -182,11 +182,11 @@ impl Cursor<'_> {
 }
 
 /// Whether a name of a method stands behind it.
-fn is_method_name(before: Before) -> bool
+fn is_method_name(before: WordContext) -> bool
     ensures { result ≡ is_method_name before }
 {
     match before {
-        Before::Plain => false,
-        Before::Dot | Before::Def => true,
+        WordContext::Plain => false,
+        WordContext::Dot | WordContext::Def => true,
     }
 }

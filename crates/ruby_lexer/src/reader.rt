@@ -13,10 +13,10 @@ ghost use Rattle.ruby_lexer.specs.Views.{Reads, Gives, seen_piece, same_bytes};
 use crate::bytes::begins_with;
 use crate::class::{Class, class_of};
 use crate::cursor::Cursor;
-use crate::gather::{Raw, Span, add_piece, settled};
+use crate::gather::{PendingToken, Span, add_piece, settled};
 use crate::parts::{add_code, add_plain, opens_code, symbol_of};
 use crate::piece::Piece;
-use crate::state::{Before, State};
+use crate::state::{State, WordContext};
 use crate::token::{Part, Token, TokenKind};
 use crate::words::one_colon;
 use bs_outside::{Bytes, Items};
@@ -70,7 +70,7 @@ fn in_code() -> State
     ensures { result ≡ in_code }
 {
     State {
-        before: Before::Plain,
+        before: WordContext::Plain,
         joins: false,
         blank: false,
         braces: 1,
@@ -243,7 +243,7 @@ impl<'a> Cursor<'a> {
     #[cycle(reader)]
     pub fn step(
         &mut self,
-        raws: &mut Vec<Raw>,
+        raws: &mut Vec<PendingToken>,
         state: State,
         depth: u32,
     ) -> Result<Option<State>, AllocError>

@@ -2,7 +2,7 @@
 
 /// What the last token makes of a word.
 #[derive(Clone, Copy)]
-pub enum Before {
+pub enum WordContext {
     /// Nothing.
     Plain,
     /// `.` or `&.` stands before it.
@@ -15,7 +15,7 @@ pub enum Before {
 #[derive(Clone, Copy)]
 pub struct State {
     /// What the last token makes of a word.
-    pub before: Before,
+    pub before: WordContext,
     /// Whether a newline is no token here.
     pub joins: bool,
     /// Whether a blank stands behind the last token.

@@ -6,7 +6,7 @@ ghost use Rattle.ruby_lexer.specs.Pieces.{seen_kind};
 
 use crate::bytes::{begins_with, is_in, word_run};
 use crate::class::{is_capital, is_letter, is_small};
-use crate::state::Before;
+use crate::state::WordContext;
 use crate::token::TokenKind;
 
 /// The reserved words.
@@ -155,19 +155,19 @@ fn is_reserved(word: &[u8]) -> bool
 }
 
 /// What a reserved word is before the rest of the text, if a token begins there.
-fn reserved_kind(before: Before, word: &[u8], rest: &[u8]) -> Option<TokenKind>
+fn reserved_kind(before: WordContext, word: &[u8], rest: &[u8]) -> Option<TokenKind>
     ensures { option_map seen_kind result ≡ reserved_kind before word.now rest.now }
 {
     match before {
-        Before::Plain => {
+        WordContext::Plain => {
             if is_forbidden(word) {
                 None
             } else {
                 Some(TokenKind::Keyword)
             }
         }
-        Before::Dot => Some(TokenKind::Name),
-        Before::Def => {
+        WordContext::Dot => Some(TokenKind::Name),
+        WordContext::Def => {
             if word == b"self".as_slice() && begins_with(b'.', rest) {
                 Some(TokenKind::Keyword)
             } else {
@@ -178,7 +178,7 @@ fn reserved_kind(before: Before, word: &[u8], rest: &[u8]) -> Option<TokenKind>
 }
 
 /// What a word is before the rest of the text, if a token begins there.
-pub fn word_kind(before: Before, word: &[u8], rest: &[u8]) -> Option<TokenKind>
+pub fn word_kind(before: WordContext, word: &[u8], rest: &[u8]) -> Option<TokenKind>
     ensures { option_map seen_kind result ≡ word_kind before word.now rest.now }
 {
     if is_reserved(word) {

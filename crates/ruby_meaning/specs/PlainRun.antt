@@ -4,7 +4,7 @@ use Rattle.bs_outside.specs.SourceTree.{SourceTree, bytes_at}
 use Rattle.ruby_tree.specs.Names.{Bytes}
 use Rattle.ruby_tree.specs.Tree.{Tree, at, statements, no_more}
 use Rattle.ruby_tree.specs.Reading.{Reads}
-use Rattle.ruby_reader.specs.HasFault.{HasFault}
+use Rattle.reference_parser.specs.HasFault.{HasFault}
 use Rattle.ruby_meaning.specs.NativeName.{Native}
 use Rattle.ruby_meaning.specs.Value.{Value, number, object, MethodRow, native, plain, elements, class_or_module, Object, Objects}
 use Rattle.ruby_meaning.specs.Numbers.{object_class, module_class, exception, standard_error, script_error, runtime_error, name_error, index_error, arguments, system_exit}

@@ -19,27 +19,27 @@ use Rattle.ruby_tree.specs.Placement.{faults, at_home, file}
 use Rattle.ruby_tree.specs.FirstFault.{IsFirstFault}
 use Rattle.ruby_tree.specs.Read.{tree_of}
 use Rattle.ruby_tree.specs.Reading.{Reads}
-use Rattle.ruby_parts.specs.declared.Subtree.{Subtree}
-use Rattle.ruby_parts.specs.Subtrees.{IsNode, Holds}
-use Rattle.ruby_parts.proofs.GoesOn.{extends_same}
-use Rattle.list_reader.specs.Answers.{Answer, taken, deep}
-use Rattle.list_reader.specs.Answers as answer
-use Rattle.list_reader.specs.ReadStatements.{readers}
-use Rattle.list_reader.specs.Stops.{stops_at}
-use Rattle.list_reader.proofs.Whole.{taken_is}
+use Rattle.tree_builder.specs.declared.Subtree.{Subtree}
+use Rattle.tree_builder.specs.Subtrees.{IsNode, Holds}
+use Rattle.tree_builder.proofs.GoesOn.{extends_same}
+use Rattle.reference_parser.specs.Answers.{Answer, taken, deep}
+use Rattle.reference_parser.specs.Answers as answer
+use Rattle.reference_parser.specs.ReadStatements.{readers}
+use Rattle.reference_parser.specs.Stops.{stops_at}
+use Rattle.reference_laws.proofs.Whole.{taken_is}
 use Rattle.parse_state.specs.declared.failures.Failure.{Failure}
 use Rattle.parse_state.specs.declared.standing.Parser.{Parser}
 use Rattle.parse_state.specs.Gives.{Gives, gave, no_syntax, too_deep, no_memory}
 use Rattle.ruby_reader.specs.declared.reading.ReadError.{ReadError}
 use Rattle.ruby_reader.specs.declared.reading.ReadError.TheVariants as error
 use Rattle.ruby_reader.specs.declared.parsing.Parsed.{Parsed}
-use Rattle.ruby_reader.specs.HasFault.{HasFault, no_text, placement, text_end, end_line, read_open}
-use Rattle.ruby_reader.specs.HasFault as has
-use Rattle.ruby_reader.specs.ReadingOf.{tree, fault, stop_line, answered, reading_of}
+use Rattle.reference_parser.specs.HasFault.{HasFault, no_text, placement, text_end, end_line, read_open}
+use Rattle.reference_parser.specs.HasFault as has
+use Rattle.reference_parser.specs.ReadingOf.{tree, fault, stop_line, answered, reading_of}
 use Rattle.ruby_reader.specs.Outcomes.{IsFaultOf, error_of}
 use Rattle.ruby_reader.specs.Parsing.{is_whole, IsTaken, Parses, IsWhole}
-use Rattle.ruby_reader.proofs.Scanning.{whole_tokens}
-use Rattle.ruby_reader.proofs.ReadingOne.{by_answer, read_only}
+use Rattle.reference_laws.proofs.Scanning.{whole_tokens}
+use Rattle.reference_laws.proofs.ReadingOne.{by_answer, read_only}
 
 -- the line of a walk, by what it was given
 pub walked : (source context : Bytes) (ts : Toks) (stop line : Option ℕ) (end last : ℕ) → context ≡ before_end source → end ≡ end_line source stop → last ≡ text_end source → line ≡ stops_at context (readers context 199) end ts fresh → unwrap_or line last ≡ stop_line source ts stop

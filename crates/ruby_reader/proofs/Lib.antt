@@ -1,10 +1,1 @@
-pub mod Scanning
-pub mod Uncut
-pub mod Sited
-pub mod SitedParts
-pub mod SitedStatements
-pub mod Tails
-pub mod LinedText
-pub mod Sites
-pub mod ReadingOne
 pub mod Judging

@@ -5,7 +5,7 @@ use Rattle.ruby_lexer.specs.declared.lexing.LexError.TheVariants as lex_error
 use Rattle.ruby_lexer.specs.Bytes.{Bytes}
 use Rattle.ruby_reader.specs.declared.reading.ReadError.{ReadError}
 use Rattle.ruby_reader.specs.declared.reading.ReadError.TheVariants as error
-use Rattle.ruby_reader.specs.ReadingOf.{fault, reading_of}
+use Rattle.reference_parser.specs.ReadingOf.{fault, reading_of}
 
 -- A fault stands in the line that the reading has, and memory may always be wanting.
 abbrev pub IsFaultOf : Bytes → ReadError → Type 0

@@ -6,14 +6,14 @@ use Rattle.ruby_tree.specs.Tree.{Tree}
 use Rattle.ruby_tree.specs.Rules.{Scope}
 use Rattle.ruby_tree.specs.Read.{tree_of}
 use Rattle.ruby_tree.specs.NamesFit.{names_fit}
-use Rattle.ruby_parts.specs.Subtrees.{Holds}
-use Rattle.list_reader.specs.Answers.{taken, fault, deep}
+use Rattle.tree_builder.specs.Subtrees.{Holds}
+use Rattle.reference_parser.specs.Answers.{taken, fault, deep}
 use Rattle.parse_state.specs.declared.failures.Failure.{Failure}
 use Rattle.parse_state.specs.declared.failures.Failure.TheVariants as failure
 use Rattle.ruby_reader.specs.declared.parsing.Parsed.{Parsed}
-use Rattle.ruby_reader.specs.HasFault.{read_open}
-use Rattle.ruby_reader.specs.ReadingOf.{tree, reading_of}
-use Rattle.ruby_reader.specs.ReadingOf as reading
+use Rattle.reference_parser.specs.HasFault.{read_open}
+use Rattle.reference_parser.specs.ReadingOf.{tree, reading_of}
+use Rattle.reference_parser.specs.ReadingOf as reading
 
 -- no token is left, and the text ends behind the last one
 abbrev pub is_whole : Toks → Option ℕ → Bool

@@ -5,8 +5,8 @@ ghost use Rattle.ruby_lexer.specs.Tokens.{before_end, IsFront};
 ghost use Rattle.ruby_tree.specs.Rules.{fresh};
 ghost use Rattle.ruby_tree.specs.Read.{tree_of};
 ghost use Rattle.parse_state.specs.Standing.{At};
-ghost use Rattle.ruby_reader.specs.HasFault.{text_end, end_line};
-ghost use Rattle.ruby_reader.specs.ReadingOf.{tree, reading_of, stop_line};
+ghost use Rattle.reference_parser.specs.HasFault.{text_end, end_line};
+ghost use Rattle.reference_parser.specs.ReadingOf.{tree, reading_of, stop_line};
 ghost use Rattle.ruby_reader.specs.Outcomes.{IsFaultOf};
 ghost use Rattle.ruby_reader.specs.Parsing.{is_whole, IsTaken, Parses, IsWhole, Judges};
 ghost use Rattle.ruby_reader.specs.declared.reading.ReadError.TheVariants as read_error;
@@ -14,11 +14,11 @@ ghost use Rattle.ruby_reader.specs.declared.reading.ReadError.TheVariants as rea
 use crate::{ReadError, SyntaxFault};
 use bs_outside::NoMemory;
 use parse_state::{Context, Failure, Parser};
-use ruby_lexer::{Front, Token, before_end, newlines};
-use ruby_parts::Subtree;
-use ruby_sight::{Do, Locals};
+use ruby_lexer::{Token, TokenPrefix, before_end, newlines};
 use ruby_tree::{Program, SymbolTable, placement_fault};
 use std::alloc::Global;
+use token_lookahead::{DoBlockOwner, Locals};
+use tree_builder::Subtree;
 
 /// So many symbols of the grammar may nest in one another, and a tree may be so deep.
 const DEPTH: u64 = 200;
@@ -75,14 +75,14 @@ fn end_line(text: &[u8], stop: Option<u64>) -> u64
 }
 
 /// The line at which the grammar stops.
-fn stop_line(alloc: Global, text: &[u8], front: &Front) -> Result<u64, NoMemory>
+fn stop_line(alloc: Global, text: &[u8], front: &TokenPrefix) -> Result<u64, NoMemory>
     ensures { IfOk result (λ line. line ≡ stop_line text.now (seen_all front.now.tokens) front.now.fault) }
 {
     let context = context_of(alloc, text);
     let mut parser = parser_of(alloc, front.tokens.as_slice());
     let end = end_line(text, front.fault);
     // Statements nest as they do where the whole file is read, of which they are a part.
-    let line = parse_knot::stop_line(DEPTH - 1, context, &mut parser, end)?;
+    let line = parse_program::stop_line(DEPTH - 1, context, &mut parser, end)?;
     Ok(line.unwrap_or(last_line(text)))
 }
 
@@ -91,7 +91,12 @@ pub fn parse<'a>(alloc: Global, text: &[u8], tokens: &'a [Token]) -> Result<Pars
     ensures { Parses text.now (seen_all tokens.now) result }
 {
     let mut parser = parser_of(alloc, tokens);
-    let part = parse_knot::statements(DEPTH, context_of(alloc, text), &mut parser, Do::Own)?;
+    let part = parse_program::statements(
+        DEPTH,
+        context_of(alloc, text),
+        &mut parser,
+        DoBlockOwner::Own,
+    )?;
     Ok(Parsed {
         part,
         symbols: parser.symbols,
@@ -106,7 +111,7 @@ fn syntax(line: u64) -> ReadError
 }
 
 /// Why the tokens were not taken.
-pub fn failed(alloc: Global, text: &[u8], front: &Front, failure: Failure) -> ReadError
+pub fn failed(alloc: Global, text: &[u8], front: &TokenPrefix, failure: Failure) -> ReadError
     requires front { IsFront text.now (seen_all front.now.tokens) front.now.fault }
     requires failed { Parses text.now (seen_all front.now.tokens) (Err failure) }
     ensures { IsFaultOf text.now result }
@@ -122,7 +127,7 @@ pub fn failed(alloc: Global, text: &[u8], front: &Front, failure: Failure) -> Re
 }
 
 /// Whether all of the text was taken.
-fn is_whole(front: &Front, parsed: &Parsed<'_>) -> bool
+fn is_whole(front: &TokenPrefix, parsed: &Parsed<'_>) -> bool
     ensures { result ≡ is_whole (seen_all parsed.now.rest.now) front.now.fault }
 {
     match parsed.rest {
@@ -135,7 +140,7 @@ fn is_whole(front: &Front, parsed: &Parsed<'_>) -> bool
 fn fault_in(
     alloc: Global,
     text: &[u8],
-    front: &Front,
+    front: &TokenPrefix,
     parsed: &Parsed<'_>,
 ) -> Result<Option<u64>, NoMemory>
     requires front { IsFront text.now (seen_all front.now.tokens) front.now.fault }
@@ -169,7 +174,7 @@ fn program_of(text: &[u8], parsed: Parsed<'_>) -> Program
 pub fn judged(
     alloc: Global,
     text: &[u8],
-    front: &Front,
+    front: &TokenPrefix,
     parsed: Parsed<'_>,
 ) -> Result<Program, ReadError>
     requires front { IsFront text.now (seen_all front.now.tokens) front.now.fault }

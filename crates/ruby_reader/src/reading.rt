@@ -1,12 +1,12 @@
 //! Texts of whole files.
 ghost use Rattle.std.specs.Prelude.{◌≡◌, IfOk, IfErr};
 ghost use Rattle.ruby_tree.specs.Read.{tree_of};
-ghost use Rattle.ruby_reader.specs.ReadingOf.{tree, reading_of};
+ghost use Rattle.reference_parser.specs.ReadingOf.{tree, reading_of};
 ghost use Rattle.ruby_reader.specs.Outcomes.{IsFaultOf, error_of};
 ghost use Rattle.ruby_reader.specs.declared.reading.ReadError.TheVariants as read_error;
 
 use crate::parsing::{failed, judged, parse};
-use ruby_lexer::{LexError, read_front};
+use ruby_lexer::{LexError, read_token_prefix};
 use ruby_tree::Program;
 use std::alloc::{AllocError, Global};
 use thiserror::Error;
@@ -72,7 +72,7 @@ pub fn read_program(alloc: Global, text: &[u8]) -> Result<Program, ReadError>
     ensures program { IfOk result (λ program. reading_of text.now ≡ tree (tree_of program.symbols program.root)) }
     ensures fault { IfErr result (IsFaultOf text.now) }
 {
-    let front = read_front(alloc, text)?;
+    let front = read_token_prefix(alloc, text)?;
     match parse(alloc, text, front.tokens.as_slice()) {
         Ok(parsed) => judged(alloc, text, &front, parsed),
         Err(failure) => Err(failed(alloc, text, &front, failure)),

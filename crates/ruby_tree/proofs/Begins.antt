@@ -3,7 +3,7 @@ use Rattle.std.proofs.Common.{◌≡◌, ℕ, Bool, true, false, ◌||◌, codes
 use Rattle.ruby_lexer.specs.Bytes.{Bytes}
 use Rattle.ruby_lexer.specs.Pieces.{Toks, name}
 use Rattle.ruby_tree.specs.Tree.{Params}
-use Rattle.ruby_tree.specs.Rules.{Scope, Do, front, is_kind_name, begins_params}
+use Rattle.ruby_tree.specs.Rules.{Scope, DoBlockOwner, front, is_kind_name, begins_params}
 use Rattle.ruby_tree.specs.Grammar.{Rels, Mark, Newline, MethodParams, ParameterList}
 use Rattle.ruby_tree.specs.Grammar as g
 
@@ -30,7 +30,7 @@ module _ (source : Bytes) where
   by_and : (w : Toks) → Mark source (codes "&") w → begins_params source w ≡ true
   by_and w is = right_of _ _ is
 
-  module _ (R : Rels) (d : Do) where
+  module _ (R : Rels) (d : DoBlockOwner) where
     method_params_begin : (l : ℕ) (w r : Toks) (s z : Scope) (ps : Params) → MethodParams source R d l w s ps r z → begins_params source w ≡ true
     method_params_begin l w r s z ps (g.named e f) = by_name w e
     method_params_begin l w r s z ps (g.named_more e f h) = by_name w e

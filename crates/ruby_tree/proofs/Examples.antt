@@ -3,9 +3,9 @@ use Rattle.std.proofs.Common.{◌≡◌, ℕ, Bool, true, false, ◌||◌, [], �
 use Rattle.ruby_lexer.specs.Bytes.{Bytes}
 use Rattle.ruby_lexer.specs.Pieces.{Kind, Toks, tok, name, integer, mark, newline, none}
 use Rattle.ruby_lexer.specs.Pieces as token
-use Rattle.ruby_tree.specs.Tree.{Spot, Tree, Params, at, statements, send, local, assign, to_local, no_more, more, without}
+use Rattle.ruby_tree.specs.Tree.{SourcePosition, Tree, Params, at, statements, send, local, assign, to_local, no_more, more, without}
 use Rattle.ruby_tree.specs.Tree as tree
-use Rattle.ruby_tree.specs.Rules.{Scope, fresh, nowhere, next, front, is_kind_mark, begins_params, sets, goes_on, Do, own, mark_in, is_mark, assigns, product_marks, sum_marks, shift_marks, intersection_marks, union_marks, order_marks, equality_marks}
+use Rattle.ruby_tree.specs.Rules.{Scope, fresh, nowhere, next, front, is_kind_mark, begins_params, sets, goes_on, DoBlockOwner, own, mark_in, is_mark, assigns, product_marks, sum_marks, shift_marks, intersection_marks, union_marks, order_marks, equality_marks}
 use Rattle.ruby_tree.specs.Grammar.{Rels, Derives, derives, NoMark, NoWord, Primary, Minus, Arg, MethodName}
 use Rattle.ruby_tree.specs.Grammar as g
 use Rattle.ruby_tree.specs.FaultLine.{Header}
@@ -14,13 +14,13 @@ use Rattle.ruby_tree.proofs.Begins.{parameters_begin}
 
 module _ (source : Bytes) (R : Rels) where
   -- an operand of binary operators, before what does not go on with it
-  whole_operand : {d : Do} {w r : Toks} {s z : Scope} {t : Tree} → sets source w ≡ false → Minus source R d w s t r z → mark_in source product_marks r ≡ false → mark_in source sum_marks r ≡ false → mark_in source shift_marks r ≡ false → mark_in source intersection_marks r ≡ false → mark_in source union_marks r ≡ false → mark_in source order_marks r ≡ false → (mark_in source equality_marks r || is_mark source (codes "!=") r) ≡ false → NoMark source (codes "&&") r → NoMark source (codes "||") r → NoMark source (codes "..") r → NoMark source (codes "...") r → NoMark source (codes "?") r → assigns source r ≡ false → Arg source R d w s t r z
+  whole_operand : {d : DoBlockOwner} {w r : Toks} {s z : Scope} {t : Tree} → sets source w ≡ false → Minus source R d w s t r z → mark_in source product_marks r ≡ false → mark_in source sum_marks r ≡ false → mark_in source shift_marks r ≡ false → mark_in source intersection_marks r ≡ false → mark_in source union_marks r ≡ false → mark_in source order_marks r ≡ false → (mark_in source equality_marks r || is_mark source (codes "!=") r) ≡ false → NoMark source (codes "&&") r → NoMark source (codes "||") r → NoMark source (codes "..") r → NoMark source (codes "...") r → NoMark source (codes "?") r → assigns source r ≡ false → Arg source R d w s t r z
   whole_operand e0 p e2 e3 e4 e5 e6 e7 e8 e9 e10 e11 e12 e13 e14 =
       g.Arg.other e0 (g.Unset.plain (g.Conditional.plain (g.Range.plain (g.chain (g.chain (g.Equality.plain (g.chain (g.chain (g.chain (g.chain (g.chain (g.chain p (g.Rest.end e2)) (g.Rest.end e3)) (g.Rest.end e4)) (g.Rest.end e5)) (g.Rest.end e6)) (g.Rest.end e7)) e8) (g.Rest.end e9)) (g.Rest.end e10)) e11 e12) e13) e14)
 
   -- one that has no operator of its own
-  operand : {d : Do} {w r : Toks} {s z : Scope} {t : Tree} → sets source w ≡ false → Primary source R d w s t r z → goes_on source r ≡ false → NoMark source (codes "**") r → mark_in source product_marks r ≡ false → mark_in source sum_marks r ≡ false → mark_in source shift_marks r ≡ false → mark_in source intersection_marks r ≡ false → mark_in source union_marks r ≡ false → mark_in source order_marks r ≡ false → (mark_in source equality_marks r || is_mark source (codes "!=") r) ≡ false → NoMark source (codes "&&") r → NoMark source (codes "||") r → NoMark source (codes "..") r → NoMark source (codes "...") r → NoMark source (codes "?") r → assigns source r ≡ false → Arg source R d w s t r z
-  operand e0 p e p1 = whole_operand e0 (g.Minus.plain (g.Power.plain (g.Tight.plain (g.postfix p g.Postfixes.end) e) p1))
+  operand : {d : DoBlockOwner} {w r : Toks} {s z : Scope} {t : Tree} → sets source w ≡ false → Primary source R d w s t r z → goes_on source r ≡ false → NoMark source (codes "**") r → mark_in source product_marks r ≡ false → mark_in source sum_marks r ≡ false → mark_in source shift_marks r ≡ false → mark_in source intersection_marks r ≡ false → mark_in source union_marks r ≡ false → mark_in source order_marks r ≡ false → (mark_in source equality_marks r || is_mark source (codes "!=") r) ≡ false → NoMark source (codes "&&") r → NoMark source (codes "||") r → NoMark source (codes "..") r → NoMark source (codes "...") r → NoMark source (codes "?") r → assigns source r ≡ false → Arg source R d w s t r z
+  operand e0 p e p1 = whole_operand e0 (g.Minus.plain (g.Power.plain (g.UnaryOperand.plain (g.postfix p g.Postfixes.end) e) p1))
 
 -- a name is no mark
 no_mark : (k : Option Kind) (b : Bool) → k ≡ Some name → (is_kind_mark k && b) ≡ true → ⊥
@@ -46,7 +46,7 @@ puts_one = codes "puts 1"
 abbrev puts_one_tokens : Toks
 puts_one_tokens = token.more (tok name 0 4 1 false) (token.more (tok (integer (pos 1)) 5 6 1 true) none)
 
-abbrev spot_at : ℕ → Spot
+abbrev spot_at : ℕ → SourcePosition
 spot_at p = record { first = 1; line = 1; place = p }
 
 pub puts_one_is : Derives puts_one puts_one_tokens (at (spot_at 0) (statements (more (at (spot_at 0) (send without (more (at (spot_at 5) (tree.integer (pos 1))) no_more) [] without (codes "puts") false without)) no_more)))
@@ -129,7 +129,7 @@ sent_minus_is = record {
   derived =
       g.Stmts.some refl (g.StmtList.last (g.head (g.Head.plain refl (g.tests (g.Test.plain (g.CommandOrArg.arg
       (g.Arg.variable refl refl (g.Value.plain (g.CommandOrArg.arg
-      (whole_operand sent_minus (derives sent_minus 2) refl (g.Minus.minus refl refl (g.Minus.plain (g.Power.plain (g.Tight.plain (g.postfix (g.literal (g.number refl)) g.Postfixes.end) refl) refl))) refl refl refl refl refl refl refl refl refl refl refl refl refl)) refl))))
+      (whole_operand sent_minus (derives sent_minus 2) refl (g.Minus.minus refl refl (g.Minus.plain (g.Power.plain (g.UnaryOperand.plain (g.postfix (g.literal (g.number refl)) g.Postfixes.end) refl) refl))) refl refl refl refl refl refl refl refl refl refl refl refl refl)) refl))))
       (g.Tests.end refl refl))) (g.Modifiers.end refl)) refl);
 }
 

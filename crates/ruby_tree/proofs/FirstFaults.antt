@@ -9,7 +9,7 @@ use Rattle.ruby_tree.specs.declared.node.Param.TheVariants as param
 use Rattle.ruby_tree.specs.declared.node.Node.{Node}
 use Rattle.ruby_tree.specs.declared.node.Node.TheViews.{out-Node}
 use Rattle.ruby_tree.specs.Names.{Texts}
-use Rattle.ruby_tree.specs.Tree.{Spot, Tree, Pieces, no_piece, Params, no_param}
+use Rattle.ruby_tree.specs.Tree.{SourcePosition, Tree, Pieces, no_piece, Params, no_param}
 use Rattle.ruby_tree.specs.Placement.{Around, at_home, file, is_fault, fault_if, faults, form_faults, method_faults, body_faults, pieces_faults, params_faults}
 use Rattle.ruby_tree.specs.FirstFault.{earlier, first_of, fault_at, root_faults, IsFirstFault}
 use Rattle.ruby_tree.specs.Read.{tree_of}
@@ -58,7 +58,7 @@ earlier_earlier (Some a) None c = ap (λ x. earlier x c) (earlier-none (Some a))
 earlier_earlier (Some a) (Some b) None = earlier-none _ ∙ ap (earlier (Some a)) (sym (earlier-none (Some b)))
 earlier_earlier (Some a) (Some b) (Some c) = three a b c (sides b.place a.place) (sides c.place b.place) (sides c.place a.place)
 
-pub first-append : (os ps : List Spot) → first_of (os ++ ps) ≡ earlier (first_of os) (first_of ps)
+pub first-append : (os ps : List SourcePosition) → first_of (os ++ ps) ≡ earlier (first_of os) (first_of ps)
 unfolding first_of
 first-append [] ps = sym (none-earlier _)
 first-append (o ∷ os) ps = ap (earlier (Some (fault_at o))) (first-append os ps) ∙ sym (earlier_earlier _ _ _)
@@ -67,7 +67,7 @@ pub first-empty : first_of [] ≡ None
 unfolding first_of
 first-empty = refl
 
-pub first-one : (o : Spot) → first_of (o ∷ []) ≡ Some (fault_at o)
+pub first-one : (o : SourcePosition) → first_of (o ∷ []) ≡ Some (fault_at o)
 unfolding first_of
 first-one o = earlier-none _
 
@@ -101,13 +101,13 @@ pub ruleset walked = (first-append, first-empty, first-one, earlier-none, none-e
 
 pub ruleset rooted = (root-fault, root-sound)
 
-has_head : (o : Spot) (os : List Spot) → Contains (o ∷ os) o
+has_head : (o : SourcePosition) (os : List SourcePosition) → Contains (o ∷ os) o
 has_head o os = (0, omega arith, refl)
 
-has_tail : (o p : Spot) (os : List Spot) → Contains os p → Contains (o ∷ os) p
+has_tail : (o p : SourcePosition) (os : List SourcePosition) → Contains os p → Contains (o ∷ os) p
 has_tail o p os c = (suc c.0, omega (arith, c.1), c.2)
 
-head_or_tail : (o p : Spot) (os : List Spot) → Contains (o ∷ os) p → (o ≡ p) ⊎ Contains os p
+head_or_tail : (o p : SourcePosition) (os : List SourcePosition) → Contains (o ∷ os) p → (o ≡ p) ⊎ Contains os p
 head_or_tail o p os c = by c.0 c.1 c.2
   where
     by : (k : ℕ) → k < length (o ∷ os) → get_or (o ∷ os) k p ≡ p → (o ≡ p) ⊎ Contains os p
@@ -115,54 +115,54 @@ head_or_tail o p os c = by c.0 c.1 c.2
     by (suc k) less is = inr (k, omega arith, is)
 
 -- what the first of the faults is
-abbrev IsFirstOf : List Spot → Option Misplaced → Type 0
+abbrev IsFirstOf : List SourcePosition → Option Misplaced → Type 0
 IsFirstOf os None = os ≡ []
 IsFirstOf os (Some m) = IsFirstFault os m
 
-in_none : (os : List Spot) (p : Spot) → os ≡ [] → Contains os p → ⊥
+in_none : (os : List SourcePosition) (p : SourcePosition) → os ≡ [] → Contains os p → ⊥
 in_none os p is c = let less : c.0 < 0 = subst (λ x. c.0 < length x) is c.1 in omega arith
 
-place_of : (o p : Spot) → o ≡ p → o.place ≡ p.place
+place_of : (o p : SourcePosition) → o ≡ p → o.place ≡ p.place
 place_of o p is = ap (λ x. x.place) is
 
-head_first : (o : Spot) (os : List Spot) → ((p : Spot) → Contains os p → o.place ≤ p.place) → IsFirstFault (o ∷ os) (fault_at o)
-head_first o os below = record { spot = o; first = record { among = has_head o os; first = λ p c. by p (head_or_tail o p os c) }; line = refl; place = refl }
+head_first : (o : SourcePosition) (os : List SourcePosition) → ((p : SourcePosition) → Contains os p → o.place ≤ p.place) → IsFirstFault (o ∷ os) (fault_at o)
+head_first o os below = record { position = o; first = record { among = has_head o os; first = λ p c. by p (head_or_tail o p os c) }; line = refl; place = refl }
   where
-    by : (p : Spot) → (o ≡ p) ⊎ Contains os p → o.place ≤ p.place
+    by : (p : SourcePosition) → (o ≡ p) ⊎ Contains os p → o.place ≤ p.place
     by p (inl is) = let e : o.place ≡ p.place = place_of o p is in omega arith
     by p (inr c) = below p c
 
-tail_first : (o : Spot) (os : List Spot) (m : Misplaced) → m.place < o.place → IsFirstFault os m → IsFirstFault (o ∷ os) m
-tail_first o os m less is = record { spot = is.spot; first = record { among = has_tail o is.spot os is.first.among; first = λ p c. by p (head_or_tail o p os c) }; line = is.line; place = is.place }
+tail_first : (o : SourcePosition) (os : List SourcePosition) (m : Misplaced) → m.place < o.place → IsFirstFault os m → IsFirstFault (o ∷ os) m
+tail_first o os m less is = record { position = is.position; first = record { among = has_tail o is.position os is.first.among; first = λ p c. by p (head_or_tail o p os c) }; line = is.line; place = is.place }
   where
-    by : (p : Spot) → (o ≡ p) ⊎ Contains os p → is.spot.place ≤ p.place
-    by p (inl e) = let same : o.place ≡ p.place = place_of o p e in let at_m : is.spot.place ≡ m.place = is.place in omega arith
+    by : (p : SourcePosition) → (o ≡ p) ⊎ Contains os p → is.position.place ≤ p.place
+    by p (inl e) = let same : o.place ≡ p.place = place_of o p e in let at_m : is.position.place ≡ m.place = is.place in omega arith
     by p (inr c) = is.first.first p c
 
-joins : (o : Spot) (os : List Spot) (r : Option Misplaced) → IsFirstOf os r → IsFirstOf (o ∷ os) (earlier (Some (fault_at o)) r)
+joins : (o : SourcePosition) (os : List SourcePosition) (r : Option Misplaced) → IsFirstOf os r → IsFirstOf (o ∷ os) (earlier (Some (fault_at o)) r)
 joins o os None is = subst (IsFirstOf (o ∷ os)) (sym (earlier-none (Some (fault_at o)))) (head_first o os (λ p c. absurd (in_none os p is c)))
 joins o os (Some m) is = by (sides m.place o.place)
   where
     by : (m.place < o.place) ⊎ (o.place ≤ m.place) → IsFirstOf (o ∷ os) (earlier (Some (fault_at o)) (Some m))
     by (inl less) = subst (IsFirstOf (o ∷ os)) (sym (second_first (fault_at o) m less)) (tail_first o os m less is)
-    by (inr le) = subst (IsFirstOf (o ∷ os)) (sym (first_first (fault_at o) m le)) (head_first o os (λ p c. let at_m : is.spot.place ≡ m.place = is.place in let below : is.spot.place ≤ p.place = is.first.first p c in omega arith))
+    by (inr le) = subst (IsFirstOf (o ∷ os)) (sym (first_first (fault_at o) m le)) (head_first o os (λ p c. let at_m : is.position.place ≡ m.place = is.place in let below : is.position.place ≤ p.place = is.first.first p c in omega arith))
 
-first_is : (os : List Spot) → IsFirstOf os (first_of os)
+first_is : (os : List SourcePosition) → IsFirstOf os (first_of os)
 unfolding first_of
 first_is [] = refl
 first_is (o ∷ os) = joins o os (first_of os) (first_is os)
 
-pub none_first : (os : List Spot) → first_of os ≡ None → os ≡ []
+pub none_first : (os : List SourcePosition) → first_of os ≡ None → os ≡ []
 none_first os is = subst (IsFirstOf os) is (first_is os)
 
-pub some_first : (os : List Spot) (m : Misplaced) → first_of os ≡ Some m → IsFirstFault os m
+pub some_first : (os : List SourcePosition) (m : Misplaced) → first_of os ≡ Some m → IsFirstFault os m
 some_first os m is = subst (IsFirstOf os) is (first_is os)
 
-none_iff : (os : List Spot) (found : Option Misplaced) → found ≡ first_of os → IsNone found ↔ (os ≡ [])
+none_iff : (os : List SourcePosition) (found : Option Misplaced) → found ≡ first_of os → IsNone found ↔ (os ≡ [])
 none_iff os None is = (λ n. none_first os (sym is), λ e. refl)
 none_iff os (Some m) is = (λ n. let no : true ≡ false = n in cc, λ e. let no : Some m ≡ None = is ∙ ap first_of e ∙ first-empty in cc)
 
-some_is : (os : List Spot) (found : Option Misplaced) → found ≡ first_of os → IfSome found (IsFirstFault os)
+some_is : (os : List SourcePosition) (found : Option Misplaced) → found ≡ first_of os → IfSome found (IsFirstFault os)
 some_is os None is = tt
 some_is os (Some m) is = some_first os m (sym is)
 

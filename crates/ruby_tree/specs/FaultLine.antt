@@ -1,9 +1,9 @@
--- Where the grammar stops in a list of tokens, and which of several spots comes first.
+-- Where the grammar stops in a list of tokens, and which of several positions comes first.
 use Rattle.std.specs.Prelude.{◌≡◌, ℕ, suc, ◌-◌, ◌≤◌, Bool, true, List, length, take, Some, codes, Contains}
 use Rattle.ruby_lexer.specs.Bytes.{Bytes}
 use Rattle.ruby_lexer.specs.Forms.{newlines}
 use Rattle.ruby_lexer.specs.Pieces.{Tok, Toks, none, more, constant}
-use Rattle.ruby_tree.specs.Tree.{Spot, Tree, Other, Params}
+use Rattle.ruby_tree.specs.Tree.{SourcePosition, Tree, Other, Params}
 use Rattle.ruby_tree.specs.Rules.{Scope, fresh, next, front, line_at, is_kind_newline, own}
 use Rattle.ruby_tree.specs.Grammar.{derives, Word, Newline, MethodName, OnSelf, ParameterList, Superclass}
 
@@ -60,7 +60,7 @@ module _ (source : Bytes) where
     token : {s y : Scope} {w u ts : Toks} {t : Tok} → IsLongestFront s w u (more t ts) y → ((r : Toks) (z : Scope) → Header y (more t ts) r z → ⊥) → StopsAt end s w (line_at (more t ts))
     ends : {s y : Scope} {w u : Toks} → IsLongestFront s w u none y → StopsAt end s w end
 
--- One of these spots comes first in the text.
-pub record IsFirst (os : List Spot) (o : Spot) : Type 0 where
+-- One of these positions comes first in the text.
+pub record IsFirst (os : List SourcePosition) (o : SourcePosition) : Type 0 where
   pub among : Contains os o
-  pub first : (p : Spot) → Contains os p → o.place ≤ p.place
+  pub first : (p : SourcePosition) → Contains os p → o.place ≤ p.place

@@ -12,4 +12,4 @@ pub mod FaultLine
 pub mod FirstFault
 pub mod NamesFit
 pub mod Programs
-pub mod Spots
+pub mod SourcePositions

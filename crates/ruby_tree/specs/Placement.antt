@@ -1,7 +1,7 @@
 -- The faults of placement in a tree: what stands where it may not stand.
 use Rattle.std.specs.Prelude.{Bool, true, false, not, ◌&&◌, ◌||◌, List, [], ◌∷◌, ◌++◌, if◌then◌else◌}
 use Rattle.ruby_lexer.specs.Bytes.{Bytes, is_in}
-use Rattle.ruby_tree.specs.Tree.{Spot, Goal, to_constant, Tree, at, Form, joined, array, hash, range, constant_path, assign, assign_all, assign_attribute, assign_index, operate_attribute, or_attribute, and_attribute, operate_index, or_index, and_index, send, safe_send, yield, super, bare_super, statements, both, either, negated, if_else, while_loop, case_of, case_tests, return_with, break_with, next_with, retry, rescue, ensure, rescue_sequence, ensure_sequence, method, class, module_named, body, Trees, no_more, more, Other, without, with, Pairs, no_pair, pair, Pieces, no_piece, plain_piece, code_piece, Whens, no_when, when, Rescues, no_clause, clause, Params, no_param, required, optional, rest_param, block_param}
+use Rattle.ruby_tree.specs.Tree.{SourcePosition, Goal, to_constant, Tree, at, Form, joined, array, hash, range, constant_path, assign, assign_all, assign_attribute, assign_index, operate_attribute, or_attribute, and_attribute, operate_index, or_index, and_index, send, safe_send, yield, super, bare_super, statements, both, either, negated, if_else, while_loop, case_of, case_tests, return_with, break_with, next_with, retry, rescue, ensure, rescue_sequence, ensure_sequence, method, class, module_named, body, Trees, no_more, more, Other, without, with, Pairs, no_pair, pair, Pieces, no_piece, plain_piece, code_piece, Whens, no_when, when, Rescues, no_clause, clause, Params, no_param, required, optional, rest_param, block_param}
 
 -- The innermost method, class or module around a place, or the file.
 pub data Home : Type 0 where
@@ -66,7 +66,7 @@ is_constant (to_constant n) = true
 is_constant _ = false
 
 -- the node that begins at o is a fault where the test passes
-abbrev pub fault_if : Bool → Spot → List Spot
+abbrev pub fault_if : Bool → SourcePosition → List SourcePosition
 fault_if b o = if b then o ∷ [] else []
 
 -- What a node of this form is a fault for by itself. `break` and `next` stand in the body of a loop or in a block; `retry` directly in a
@@ -88,10 +88,10 @@ is_fault c _ = false
 
 abbrev mutual
   -- where the faults of a tree begin
-  pub faults : Around → Tree → List Spot
+  pub faults : Around → Tree → List SourcePosition
   faults c (at o f) = fault_if (is_fault c f) o ++ form_faults c f
 
-  pub form_faults : Around → Form → List Spot
+  pub form_faults : Around → Form → List SourcePosition
   form_faults c (joined ps) = pieces_faults c ps
   form_faults c (array ts ks) = trees_faults c ts
   form_faults c (hash ps) = pairs_faults c ps
@@ -135,39 +135,39 @@ abbrev mutual
   form_faults c _ = []
 
   -- the body of a method, which is the home of its parameters too
-  pub method_faults : Tree → List Spot
+  pub method_faults : Tree → List SourcePosition
   method_faults (at o f) = fault_if (is_fault (at_home file) f) o ++ body_faults f
 
-  pub body_faults : Form → List Spot
+  pub body_faults : Form → List SourcePosition
   body_faults (body ps a) = params_faults (at_home (in_method (are_required ps))) ps ++ faults (at_home (in_method (are_required ps))) a
   body_faults _ = []
 
-  pub trees_faults : Around → Trees → List Spot
+  pub trees_faults : Around → Trees → List SourcePosition
   trees_faults c no_more = []
   trees_faults c (more t ts) = faults c t ++ trees_faults c ts
 
-  pub other_faults : Around → Other → List Spot
+  pub other_faults : Around → Other → List SourcePosition
   other_faults c without = []
   other_faults c (with t) = faults c t
 
-  pub pairs_faults : Around → Pairs → List Spot
+  pub pairs_faults : Around → Pairs → List SourcePosition
   pairs_faults c no_pair = []
   pairs_faults c (pair k v ps) = faults c k ++ faults c v ++ pairs_faults c ps
 
-  pub pieces_faults : Around → Pieces → List Spot
+  pub pieces_faults : Around → Pieces → List SourcePosition
   pieces_faults c no_piece = []
   pieces_faults c (plain_piece f ps) = pieces_faults c ps
   pieces_faults c (code_piece t ps) = faults c t ++ pieces_faults c ps
 
-  pub whens_faults : Around → Whens → List Spot
+  pub whens_faults : Around → Whens → List SourcePosition
   whens_faults c no_when = []
   whens_faults c (when ts t ws) = trees_faults c ts ++ faults c t ++ whens_faults c ws
 
-  pub rescues_faults : Around → Rescues → List Spot
+  pub rescues_faults : Around → Rescues → List SourcePosition
   rescues_faults c no_clause = []
   rescues_faults c (clause ts x t cs) = trees_faults c ts ++ faults c t ++ rescues_faults c cs
 
-  pub params_faults : Around → Params → List Spot
+  pub params_faults : Around → Params → List SourcePosition
   params_faults c no_param = []
   params_faults c (required n ps) = params_faults c ps
   params_faults c (optional n t ps) = faults c t ++ params_faults c ps

@@ -2,7 +2,7 @@
 use Rattle.std.specs.Prelude.{ℕ, nat_eq, ◌-◌, Bool, true, false, not, ◌&&◌, ◌||◌, List, [], ◌∷◌, length, take, drop, codes, Option, Some, None}
 use Rattle.ruby_lexer.specs.Bytes.{Bytes, same, is_in}
 use Rattle.ruby_lexer.specs.Pieces.{Kind, integer, name, constant, variable, global, keyword, mark, newline, label, tok, Toks, none, more}
-use Rattle.ruby_tree.specs.Tree.{Spot, Goal, to_local, to_instance, to_global}
+use Rattle.ruby_tree.specs.Tree.{SourcePosition, Goal, to_local, to_instance, to_global}
 
 -- The names that are locals at a place, and whether it stands directly in a rescue clause.
 pub record Scope : Type 0 where
@@ -58,15 +58,15 @@ touches_next (more (tok k from to line b) w) = nat_eq to (place_at w)
 touches_next none = false
 
 -- of a node that begins with the first token of w
-abbrev pub spot : Toks → Spot
-spot w = record { first = line_at w; line = line_at w; place = place_at w }
+abbrev pub position : Toks → SourcePosition
+position w = record { first = line_at w; line = line_at w; place = place_at w }
 
 -- of a node that begins there, and whose name or operator is the first token of v
-abbrev pub spot_with : Toks → Toks → Spot
-spot_with w v = record { first = line_at w; line = line_at v; place = place_at w }
+abbrev pub position_with : Toks → Toks → SourcePosition
+position_with w v = record { first = line_at w; line = line_at v; place = place_at w }
 
 -- of a node that stands for no token
-abbrev pub nowhere : Spot
+abbrev pub nowhere : SourcePosition
 nowhere = record { first = 0; line = 0; place = 0 }
 
 abbrev pub is_kind_mark : Option Kind → Bool
@@ -175,30 +175,30 @@ abbrev pub but_last : Bytes → Bytes
 but_last f = take (length f - 1) f
 
 -- Whose a `do` is that stands behind a call: the call's own, a command's around it, or a loop's in whose condition it stands.
-pub data Do : Type 0 where
-  own : Do
-  commands : Do
-  loops : Do
+pub data DoBlockOwner : Type 0 where
+  own : DoBlockOwner
+  commands : DoBlockOwner
+  loops : DoBlockOwner
 
 -- in the arguments of a command
-abbrev pub in_arguments : Do → Do
+abbrev pub in_arguments : DoBlockOwner → DoBlockOwner
 in_arguments own = commands
 in_arguments commands = commands
 in_arguments loops = loops
 
 -- in a form that `end` closes: the condition of a loop goes on there, the arguments of a command do not
-abbrev pub within : Do → Do
+abbrev pub within : DoBlockOwner → DoBlockOwner
 within own = own
 within commands = own
 within loops = loops
 
 -- whether a call may take a `do`, and whether a command may
-abbrev pub call_takes : Do → Bool
+abbrev pub call_takes : DoBlockOwner → Bool
 call_takes own = true
 call_takes commands = false
 call_takes loops = false
 
-abbrev pub command_takes : Do → Bool
+abbrev pub command_takes : DoBlockOwner → Bool
 command_takes own = true
 command_takes commands = true
 command_takes loops = false
@@ -255,11 +255,11 @@ module _ (source : Bytes) where
   opens w = is_mark (codes "(") w && not (blank w)
 
   -- a block begins here, which a call takes
-  abbrev pub opens_block : Do → Toks → Bool
+  abbrev pub opens_block : DoBlockOwner → Toks → Bool
   opens_block d w = is_mark (codes "{") w || (call_takes d && is_word (codes "do") w)
 
   -- a block begins here, which a command takes
-  abbrev pub opens_do : Do → Toks → Bool
+  abbrev pub opens_do : DoBlockOwner → Toks → Bool
   opens_do d w = command_takes d && is_word (codes "do") w
 
   -- `-` directly before an integer that no `**` follows

@@ -5,8 +5,8 @@ mod names;
 mod node;
 mod params;
 mod placement;
+mod positions;
 mod program;
-mod spots;
 mod surroundings;
 
 pub use names::{Name, SymbolTable};
@@ -15,11 +15,6 @@ pub use node::{
     Target, TextPart, Variable,
 };
 pub use placement::placement_fault;
+pub use positions::SourcePosition;
 pub use program::Program;
-pub use spots::Spot;
 pub use surroundings::Misplaced;
-
-#[cfg(test)]
-mod placement_tests;
-#[cfg(test)]
-mod tests;

@@ -22,7 +22,7 @@ use Rattle.ruby_tree.specs.declared.node.Node.{Node}
 use Rattle.ruby_tree.specs.Names.{Texts}
 use Rattle.ruby_tree.specs.Read.{literal_form, variable_form}
 use Rattle.ruby_tree.specs.Views.{read_collection, read_assignment, read_call, read_control, read_exit, read_handler, read_definition}
-use Rattle.ruby_tree.specs.Tree.{Spot, Tree, at, integer, local, text, assign, send, with, without}
+use Rattle.ruby_tree.specs.Tree.{SourcePosition, Tree, at, integer, local, text, assign, send, with, without}
 use Rattle.small_form.specs.declared.tree.Sum.{Sum}
 use Rattle.small_form.specs.declared.tree.Line.TheVariants as line
 use Rattle.small_form.specs.SmallForm.{Names, spot_in, stands_in, operand_of, alone, sum_of, short_sum, puts_line, text_line, put_of, line_of, small_of}
@@ -47,7 +47,7 @@ pub put_by_text : (n : ℕ) (names : Names) (t : Tree) → short_sum (sum_of n n
 put_by_text n names (at o (text f)) e = refl
 put_by_text n names t e = ap puts_line e
 
-module _ (texts : Texts) (n : ℕ) (names : Names) (o : Spot) where
+module _ (texts : Texts) (n : ℕ) (names : Names) (o : SourcePosition) where
   pub operand_collection : (x : Collection Node) → operand_of n names (at o (read_collection texts x)) ≡ None
   operand_collection (collection.Text ps) = refl
   operand_collection (collection.Array ts ks) = refl
@@ -279,7 +279,7 @@ module _ (texts : Texts) (n : ℕ) (names : Names) (o : Spot) where
   line_definition (definition.Module f a) = refl
   line_definition (definition.Body ps a) = refl
 
-module _ (texts : Texts) (o : Spot) where
+module _ (texts : Texts) (o : SourcePosition) where
   pub small_literal : (x : Literal) → small_of (at o (literal_form texts x)) ≡ None
   small_literal literal.Nil = refl
   small_literal literal.True = refl

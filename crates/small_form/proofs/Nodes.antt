@@ -33,7 +33,7 @@ use Rattle.ruby_tree.specs.declared.node.Node.TheViews.{out-Node}
 use Rattle.ruby_tree.specs.Names.{Bytes, Texts}
 use Rattle.ruby_tree.specs.Read.{goal_of, literal_form, text_of_name, tree_of, variable_form}
 use Rattle.ruby_tree.specs.Views.{read_all, read_other, read_kind, read_collection, read_assignment, read_call, read_control, read_exit, read_handler, read_definition}
-use Rattle.ruby_tree.specs.Tree.{Spot, Tree, at, Trees, no_more, more}
+use Rattle.ruby_tree.specs.Tree.{SourcePosition, Tree, at, Trees, no_more, more}
 use Rattle.ruby_tree.proofs.Opened.{tree_of-is}
 use Rattle.small_form.specs.declared.tree.Operand.TheVariants as operand
 use Rattle.small_form.specs.declared.tree.Line.{Line}
@@ -68,7 +68,7 @@ abbrev pub is_own : Call Node → Bool
 is_own (call.Send None ts ks v f by_itself b) = true
 is_own _ = false
 
-module _ (texts : Texts) (n : ℕ) (names : Names) (o : Spot) where
+module _ (texts : Texts) (n : ℕ) (names : Names) (o : SourcePosition) where
   other_literal : (x : Literal) → is_integer x ≡ false → operand_of n names (at o (literal_form texts x)) ≡ None
   other_literal literal.Nil q = refl
   other_literal literal.True q = refl
@@ -145,7 +145,7 @@ second_off true c x e = rw e refl
 second_off false c x e = refl
 
 -- where a node stands
-abbrev pub place_of : Node → Spot
+abbrev pub place_of : Node → SourcePosition
 place_of node = record { first = (out-Node node).first; line = (out-Node node).line; place = (out-Node node).place }
 
 module _ (texts : Texts) (n : ℕ) (names : Names) (node : Node) where
@@ -335,7 +335,7 @@ module _ (texts : Texts) (node : Node) where
   file_kind : (k : Kind Node) → (out-Node node).kind ≡ k → tree_of texts node ≡ at (place_of node) (read_kind texts k)
   file_kind k e = tree_of-is texts node ∙ ap (λ j. at (place_of node) (read_kind texts j)) e
 
-  pub small_control : (x : Control Node) (result : Result (Option SmallFile) AllocError) → (out-Node node).kind ≡ kind.Control x → ((o : Spot) → o.line ≡ (out-Node node).line → IfOk result (λ file. file ≡ small_of (at o (read_control texts x)))) → IfOk result (λ file. file ≡ small_of (tree_of texts node))
+  pub small_control : (x : Control Node) (result : Result (Option SmallFile) AllocError) → (out-Node node).kind ≡ kind.Control x → ((o : SourcePosition) → o.line ≡ (out-Node node).line → IfOk result (λ file. file ≡ small_of (at o (read_control texts x)))) → IfOk result (λ file. file ≡ small_of (tree_of texts node))
   small_control x result k is = subst (λ t. IfOk result (λ file. file ≡ small_of t)) (sym (file_kind _ k)) (is (place_of node) refl)
 
   pub small_node_literal : (x : Literal) → (out-Node node).kind ≡ kind.Literal x → small_of (tree_of texts node) ≡ None
@@ -373,7 +373,7 @@ pub ruleset lines = (line_elsewhere, line_single, line_puts, line_of_more, line_
 pub ruleset smalls = (small_node_literal, small_node_variable, small_node_collection, small_node_assignment, small_node_call, small_node_exit, small_node_handler, small_node_definition)
 
 -- statements, by what their lines are
-module _ (texts : Texts) (o : Spot) (n : ℕ) (ts : Vec Node Global) (ns : List Node) where
+module _ (texts : Texts) (o : SourcePosition) (n : ℕ) (ts : Vec Node Global) (ns : List Node) where
   pub no_file : o.line ≡ n → ns ≡ ts.items → begins_in_line_1 n (read_all texts ns) ≡ false → small_of (at o (read_control texts (control.Statements ts))) ≡ None
   no_file l is e = ap (λ b. cond b (file_with (lines_from 1 map.empty (read_all texts ts.items))) None) (ap (λ m. begins_in_line_1 m (read_all texts ts.items)) l ∙ ap (λ xs. begins_in_line_1 n (read_all texts xs)) (sym is) ∙ e)
 

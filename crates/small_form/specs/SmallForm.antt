@@ -5,7 +5,7 @@ use Rattle.std.specs.Ordering.{nat_cmp}
 use Rattle.std.specs.Cmp.Lexicographic.{slice_cmp}
 use Rattle.std.specs.FinMap as map
 use Rattle.bs_outside.specs.Paths.{same_bytes}
-use Rattle.ruby_tree.specs.Tree.{Spot, Goal, to_local, Tree, at, Form, integer, text, local, assign, send, statements, Trees, no_more, more, Other, without, with}
+use Rattle.ruby_tree.specs.Tree.{SourcePosition, Goal, to_local, Tree, at, Form, integer, text, local, assign, send, statements, Trees, no_more, more, Other, without, with}
 use Rattle.small_form.specs.declared.TheConstants.{LINE_LIMIT, OPERAND_LIMIT}
 use Rattle.small_form.specs.declared.tree.Operand.{Operand}
 use Rattle.small_form.specs.declared.tree.Operand.TheVariants as operand
@@ -21,11 +21,11 @@ use Rattle.small_form.specs.declared.tree.SmallFile.{SmallFile}
 abbrev pub Names : Type 0
 Names = map.FinMap {K = List ℕ} (slice_cmp nat_cmp) (Unit {0})
 
-abbrev pub spot_in : Tree → Spot
+abbrev pub spot_in : Tree → SourcePosition
 spot_in (at o f) = o
 
 -- the node begins in line n, and its own instructions are in that line
-abbrev pub stands_in : ℕ → Spot → Bool
+abbrev pub stands_in : ℕ → SourcePosition → Bool
 stands_in n o = (o.first == n) && (o.line == n)
 
 -- ---- operands

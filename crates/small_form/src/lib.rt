@@ -4,7 +4,7 @@
 ghost use Rattle.std.specs.Prelude.{◌≡◌, IfOk};
 ghost use Rattle.ruby_tree.specs.Names.{Texts};
 ghost use Rattle.ruby_tree.specs.Read.{tree_of};
-ghost use Rattle.ruby_tree.specs.Tree.{Spot, at};
+ghost use Rattle.ruby_tree.specs.Tree.{SourcePosition, at};
 ghost use Rattle.ruby_tree.specs.Views.{read_all, read_control};
 ghost use Rattle.small_form.specs.SmallForm.{begins_in_line_1, small_of};
 
@@ -60,7 +60,7 @@ fn control_file(
     line: u64,
     control: &Control<Node>,
 ) -> Result<Option<SmallFile>, NoMemory>
-    ensures { (o : Spot) → o.line ≡ line → IfOk result (λ file. file ≡ small_of (at o (read_control symbols.now control.now))) }
+    ensures { (o : SourcePosition) → o.line ≡ line → IfOk result (λ file. file ≡ small_of (at o (read_control symbols.now control.now))) }
 {
     match control {
         Control::Statements(statements) => {

@@ -1,5 +1,5 @@
 use Rattle.std.proofs.Common.{sym, true, false, ◌∙◌}
-use Rattle.list_reader.specs.ReadOperands.{read_class}
+use Rattle.reference_parser.specs.ReadOperands.{read_class}
 use Rattle.parse_state.specs.Gives.{no_syntax}
 use Rattle.parse_state.proofs.Steps.{yes, no}
 use Rattle.parse_operands.proofs.definitions.class_definition.Goals as goal

@@ -1,4 +1,4 @@
-use Rattle.ruby_parts.proofs.GoesOn.{later}
+use Rattle.tree_builder.proofs.GoesOn.{later}
 use Rattle.parse_state.proofs.Steps.{handed}
 use Rattle.parse_operands.proofs.Tools.{closed_with, unclosed}
 use Rattle.parse_operands.proofs.ends.closed.Goals as goal

@@ -1,5 +1,5 @@
-use Rattle.ruby_parts.proofs.GoesOn.{later}
-use Rattle.list_reader.specs.ReadBodies.{ended}
+use Rattle.tree_builder.proofs.GoesOn.{later}
+use Rattle.reference_parser.specs.ReadBodies.{ended}
 use Rattle.parse_state.specs.Gives.{gave}
 use Rattle.parse_state.proofs.Steps.{later_same, unexpected, handed}
 use Rattle.parse_operands.proofs.Tools.{so_met}

@@ -1,5 +1,5 @@
 use Rattle.ruby_tree.specs.Tree.{at}
-use Rattle.ruby_parts.proofs.GoesOn.{later}
+use Rattle.tree_builder.proofs.GoesOn.{later}
 use Rattle.parse_state.specs.Gives.{gave}
 use Rattle.parse_operands.proofs.ends.leaf.Goals as goal
 

@@ -1,6 +1,6 @@
 use Rattle.std.proofs.Common.{List, ◌∷◌, ◌++◌, [], ap, ◌∙◌}
 use Rattle.ruby_tree.specs.declared.names.Name.{Name}
-use Rattle.ruby_parts.proofs.Built.{one_name_is}
+use Rattle.tree_builder.proofs.Built.{one_name_is}
 use Rattle.parse_operands.proofs.ends.one_name.Goals as goal
 
 pub returns : goal.returns

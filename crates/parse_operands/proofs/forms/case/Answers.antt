@@ -1,5 +1,5 @@
 use Rattle.std.proofs.Common.{sym, true, false, ◌∙◌}
-use Rattle.list_reader.specs.ReadOperands.{read_case}
+use Rattle.reference_parser.specs.ReadOperands.{read_case}
 use Rattle.parse_state.proofs.Steps.{yes, no}
 use Rattle.parse_operands.proofs.forms.case.Goals as goal
 

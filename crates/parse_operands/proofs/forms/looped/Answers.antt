@@ -1,8 +1,8 @@
 use Rattle.ruby_tree.specs.Tree.{at}
-use Rattle.ruby_tree.specs.Rules.{Do}
-use Rattle.ruby_parts.proofs.GoesOn.{later}
-use Rattle.list_reader.specs.ReadItems.{Readers}
-use Rattle.list_reader.specs.ReadOperands.{read_loop}
+use Rattle.ruby_tree.specs.Rules.{DoBlockOwner}
+use Rattle.tree_builder.proofs.GoesOn.{later}
+use Rattle.reference_parser.specs.ReadItems.{Readers}
+use Rattle.reference_parser.specs.ReadOperands.{read_loop}
 use Rattle.parse_state.proofs.Steps.{later_then, from, failed, missed, handed, wanting}
 use Rattle.parse_operands.proofs.Tools.{at_spot, told_as, so, so_found}
 use Rattle.parse_operands.proofs.forms.looped.Goals as goal
@@ -17,11 +17,11 @@ returns-in_err-skip_loop_start g c = record { reads = λ w s a. handed _ _ c.fro
 
 pub returns-in_err-code : goal.returns-in_err-code
 unfolding read_loop
-returns-in_err-code g c = record { reads = λ w s a. let Q : Readers = g.N.Nested.readers c.args.nested.now c.args.context.source.now in handed _ _ c.from_residual-in_err-code.ensures.1 (from c.bump.ensures.later (so (c.in_ok-condition.ensures.reads _ _ (c.bump.ensures.at _ _ a)) (λ t1 r1 z1 b1 l1 h1. so_found (c.in_ok-skip_loop_start.ensures.finds _ _ b1) (λ t2 r2 b2 l2 h2. failed _ (told_as (λ (e : Do). Q.stmts e r2 z1) c.within-within.ensures (c.in_err-code.ensures.reads _ _ b2)))))) }
+returns-in_err-code g c = record { reads = λ w s a. let Q : Readers = g.N.Nested.readers c.args.nested.now c.args.context.source.now in handed _ _ c.from_residual-in_err-code.ensures.1 (from c.bump.ensures.later (so (c.in_ok-condition.ensures.reads _ _ (c.bump.ensures.at _ _ a)) (λ t1 r1 z1 b1 l1 h1. so_found (c.in_ok-skip_loop_start.ensures.finds _ _ b1) (λ t2 r2 b2 l2 h2. failed _ (told_as (λ (e : DoBlockOwner). Q.stmts e r2 z1) c.within-within.ensures (c.in_err-code.ensures.reads _ _ b2)))))) }
 
 pub returns-in_err-whole : goal.returns-in_err-whole
 returns-in_err-whole g c = record { reads = λ w s a. wanting _ c.from_residual-in_err-whole.ensures.1 }
 
 pub returns : goal.returns
 unfolding read_loop
-returns g c = record { reads = λ w s a. let Q : Readers = g.N.Nested.readers c.args.nested.now c.args.context.source.now in from c.bump.ensures.later (so (c.in_ok-condition.ensures.reads _ _ (c.bump.ensures.at _ _ a)) (λ t1 r1 z1 b1 l1 h1. so_found (c.in_ok-skip_loop_start.ensures.finds _ _ b1) (λ t2 r2 b2 l2 h2. so (told_as (λ (e : Do). Q.stmts e r2 z1) c.within-within.ensures (c.in_ok-code.ensures.reads _ _ b2)) (λ t3 r3 z3 b3 l3 h3. c.ended.ensures.reads Q _ (at_spot (c.spot_here-here.ensures _ _ a) (c.in_ok-whole.ensures.made _ _ _ h3 (later _ _ (later_then l2 (l3)).names _ _ h1))) _ _ b3)))) }
+returns g c = record { reads = λ w s a. let Q : Readers = g.N.Nested.readers c.args.nested.now c.args.context.source.now in from c.bump.ensures.later (so (c.in_ok-condition.ensures.reads _ _ (c.bump.ensures.at _ _ a)) (λ t1 r1 z1 b1 l1 h1. so_found (c.in_ok-skip_loop_start.ensures.finds _ _ b1) (λ t2 r2 b2 l2 h2. so (told_as (λ (e : DoBlockOwner). Q.stmts e r2 z1) c.within-within.ensures (c.in_ok-code.ensures.reads _ _ b2)) (λ t3 r3 z3 b3 l3 h3. c.ended.ensures.reads Q _ (at_spot (c.position_here-here.ensures _ _ a) (c.in_ok-whole.ensures.made _ _ _ h3 (later _ _ (later_then l2 (l3)).names _ _ h1))) _ _ b3)))) }

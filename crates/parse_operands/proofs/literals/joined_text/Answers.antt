@@ -1,7 +1,7 @@
 use Rattle.ruby_tree.specs.Tree.{at, joined}
-use Rattle.ruby_tree.specs.Rules.{next, spot}
-use Rattle.list_reader.specs.Answers.{taken}
-use Rattle.list_reader.specs.ReadOperands.{literal_by}
+use Rattle.ruby_tree.specs.Rules.{next, position}
+use Rattle.reference_parser.specs.Answers.{taken}
+use Rattle.reference_parser.specs.ReadOperands.{literal_by}
 use Rattle.parse_state.proofs.Steps.{handed}
 use Rattle.parse_operands.proofs.Tools.{at_spot, then_back, failed_back}
 use Rattle.parse_operands.proofs.literals.joined_text.Goals as goal
@@ -12,4 +12,4 @@ returns-in_err-pieces g c = record { reads = λ w s a. handed _ _ c.from_residua
 
 pub returns : goal.returns
 unfolding literal_by
-returns g c = record { reads = λ w s a. then_back (λ qs z. taken (at (spot w) (joined qs)) (next w) z) _ (c.in_ok-pieces.ensures.reads w s a) (λ t z b h. c.leaf.ensures.gives _ w z (at_spot (c.spot_here-here.ensures _ _ a) (c.joined.ensures.made _ _ h)) b) }
+returns g c = record { reads = λ w s a. then_back (λ qs z. taken (at (position w) (joined qs)) (next w) z) _ (c.in_ok-pieces.ensures.reads w s a) (λ t z b h. c.leaf.ensures.gives _ w z (at_spot (c.position_here-here.ensures _ _ a) (c.joined.ensures.made _ _ h)) b) }

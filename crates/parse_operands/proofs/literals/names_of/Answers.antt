@@ -2,7 +2,7 @@ use Rattle.std.proofs.Common.{◌≡◌, sym, ap, ◌∙◌, subst, List, [], �
 use Rattle.std.proofs.lemmas.List.{take_all, take_more}
 use Rattle.ruby_lexer.specs.Bytes.{Bytes}
 use Rattle.ruby_tree.specs.declared.names.Name.{Name}
-use Rattle.ruby_parts.specs.Subtrees.{AreNamed}
+use Rattle.tree_builder.specs.Subtrees.{AreNamed}
 use Rattle.parse_state.specs.Gives.{gave}
 use Rattle.parse_state.proofs.Steps.{from, cut, handed, wanting}
 use Rattle.parse_operands.proofs.Listed.{Listed, none_listed, listed_turn}

@@ -1,7 +1,7 @@
 use Rattle.std.proofs.Common.{suc}
 use Rattle.ruby_tree.specs.Tree.{at}
 use Rattle.ruby_tree.specs.FaultLine.{count_of}
-use Rattle.ruby_parts.proofs.GoesOn.{later}
+use Rattle.tree_builder.proofs.GoesOn.{later}
 use Rattle.parse_state.proofs.Steps.{from, failed, handed}
 use Rattle.parse_operands.proofs.Tools.{at_spot, so}
 use Rattle.parse_operands.proofs.Counts.{under_next}
@@ -11,4 +11,4 @@ pub returns-in_err-pairs : goal.returns-in_err-pairs
 returns-in_err-pairs g c = record { reads = λ w s a. handed _ _ c.from_residual.ensures.1 (from c.bump.ensures.later (failed _ (c.in_err-pairs.ensures.reads (suc (count_of w)) _ _ (c.bump.ensures.at _ _ a) (under_next w)))) }
 
 pub returns : goal.returns
-returns g c = record { reads = λ w s a. from c.bump.ensures.later (so (c.in_ok-pairs.ensures.reads (suc (count_of w)) _ _ (c.bump.ensures.at _ _ a) (under_next w)) (λ t1 r1 z1 b1 l1 h1. c.closed.ensures.reads _ (at_spot (c.spot_here-here.ensures _ _ a) (c.hash.ensures.made _ _ h1)) _ _ b1)) }
+returns g c = record { reads = λ w s a. from c.bump.ensures.later (so (c.in_ok-pairs.ensures.reads (suc (count_of w)) _ _ (c.bump.ensures.at _ _ a) (under_next w)) (λ t1 r1 z1 b1 l1 h1. c.closed.ensures.reads _ (at_spot (c.position_here-here.ensures _ _ a) (c.hash.ensures.made _ _ h1)) _ _ b1)) }

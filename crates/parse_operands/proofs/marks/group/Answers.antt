@@ -1,6 +1,6 @@
 use Rattle.ruby_tree.specs.Tree.{at}
-use Rattle.ruby_parts.proofs.GoesOn.{later}
-use Rattle.list_reader.specs.ReadOperands.{read_group}
+use Rattle.tree_builder.proofs.GoesOn.{later}
+use Rattle.reference_parser.specs.ReadOperands.{read_group}
 use Rattle.parse_state.specs.Gives.{gave}
 use Rattle.parse_state.proofs.Steps.{later_same, from, unexpected, failed, handed}
 use Rattle.parse_operands.proofs.Tools.{so, so_met}

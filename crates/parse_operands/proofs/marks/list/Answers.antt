@@ -1,14 +1,14 @@
 use Rattle.std.proofs.Common.{sym, rules, true, false, ◌∙◌}
 use Rattle.ruby_tree.specs.Tree.{at, array}
-use Rattle.ruby_parts.proofs.GoesOn.{later}
-use Rattle.list_reader.specs.ReadOperands.{read_list}
+use Rattle.tree_builder.proofs.GoesOn.{later}
+use Rattle.reference_parser.specs.ReadOperands.{read_list}
 use Rattle.parse_state.proofs.Steps.{from, yes, no}
 use Rattle.parse_operands.proofs.Tools.{at_spot, array_spread}
 use Rattle.parse_operands.proofs.marks.list.Goals as goal
 
 pub returns-then-mark_behind : goal.returns-then-mark_behind
 unfolding read_list
-returns-then-mark_behind g c = record { reads = λ w s a. yes _ (sym (c.mark_behind.ensures w s a) ∙ c.if-mark_behind.true) (from c.bump.ensures.later (c.leaf.ensures.gives _ _ _ (at_spot (c.spot_here-here.ensures _ _ a) (array_spread (search rules) (c.array.ensures.made _ _ (c.new-elements.ensures _)))) (c.bump.ensures.at w s a))) }
+returns-then-mark_behind g c = record { reads = λ w s a. yes _ (sym (c.mark_behind.ensures w s a) ∙ c.if-mark_behind.true) (from c.bump.ensures.later (c.leaf.ensures.gives _ _ _ (at_spot (c.position_here-here.ensures _ _ a) (array_spread (search rules) (c.array.ensures.made _ _ (c.new-elements.ensures _)))) (c.bump.ensures.at w s a))) }
 
 pub returns : goal.returns
 unfolding read_list

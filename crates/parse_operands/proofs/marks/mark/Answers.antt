@@ -1,6 +1,6 @@
 use Rattle.std.proofs.Common.{sym, true, false, ◌∙◌}
-use Rattle.list_reader.specs.ReadItems.{Readers}
-use Rattle.list_reader.specs.ReadOperands.{read_mark}
+use Rattle.reference_parser.specs.ReadItems.{Readers}
+use Rattle.reference_parser.specs.ReadOperands.{read_mark}
 use Rattle.parse_state.specs.Gives.{no_syntax}
 use Rattle.parse_state.proofs.Steps.{yes, no}
 use Rattle.parse_operands.proofs.marks.mark.Goals as goal

@@ -1,5 +1,5 @@
 use Rattle.std.proofs.Common.{sym, true, false, ◌∙◌}
-use Rattle.list_reader.specs.ReadOperands.{called_name, read_constant}
+use Rattle.reference_parser.specs.ReadOperands.{called_name, read_constant}
 use Rattle.parse_state.proofs.Steps.{yes, no}
 use Rattle.parse_operands.proofs.names.constant.Goals as goal
 

@@ -6,4 +6,4 @@ pub returns-in_err-name : goal.returns-in_err-name
 returns-in_err-name c = record { reads = λ w s a. handed _ _ c.from_residual.ensures.1 (cut (c.in_err-name.ensures.gives _ _ a)) }
 
 pub returns : goal.returns
-returns c = record { reads = λ w s a. so_step (c.in_ok-name.ensures.gives _ _ a) (λ b1 l1 h1. c.leaf.ensures.gives _ _ _ (at_spot (c.spot_here-here.ensures _ _ a) (c.global.ensures.made _ _ h1)) b1) }
+returns c = record { reads = λ w s a. so_step (c.in_ok-name.ensures.gives _ _ a) (λ b1 l1 h1. c.leaf.ensures.gives _ _ _ (at_spot (c.position_here-here.ensures _ _ a) (c.global.ensures.made _ _ h1)) b1) }

@@ -1,4 +1,4 @@
-use Rattle.ruby_parts.proofs.Targets.{constant_named}
+use Rattle.tree_builder.proofs.Targets.{constant_named}
 use Rattle.parse_state.proofs.Steps.{cut, handed, wanting}
 use Rattle.parse_operands.proofs.Tools.{at_spot, so_step}
 use Rattle.parse_operands.proofs.names.plain_constant.Goals as goal
@@ -10,4 +10,4 @@ pub returns-in_err-part : goal.returns-in_err-part
 returns-in_err-part c = record { reads = λ w s a. wanting _ c.from_residual-in_err-part.ensures.1 }
 
 pub returns : goal.returns
-returns c = record { reads = λ w s a. so_step (c.in_ok-name.ensures.gives _ _ a) (λ b1 l1 h1. c.leaf.ensures.gives _ _ _ (at_spot (c.spot_here-here.ensures _ _ a) (c.in_ok-part.ensures.made _ _ (constant_named _ _ _ h1))) b1) }
+returns c = record { reads = λ w s a. so_step (c.in_ok-name.ensures.gives _ _ a) (λ b1 l1 h1. c.leaf.ensures.gives _ _ _ (at_spot (c.position_here-here.ensures _ _ a) (c.in_ok-part.ensures.made _ _ (constant_named _ _ _ h1))) b1) }

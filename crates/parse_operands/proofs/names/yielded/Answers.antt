@@ -1,5 +1,5 @@
 use Rattle.std.proofs.Common.{sym, rules, true, false, ◌∙◌}
-use Rattle.list_reader.specs.ReadOperands.{read_yield}
+use Rattle.reference_parser.specs.ReadOperands.{read_yield}
 use Rattle.parse_state.specs.Gives.{no_syntax}
 use Rattle.parse_state.proofs.Steps.{yes, no}
 use Rattle.parse_operands.proofs.Tools.{at_spot, yield_spread}
@@ -15,4 +15,4 @@ returns-then-arguments_behind g c = record { reads = λ w s a. no _ (sym (c.open
 
 pub returns : goal.returns
 unfolding read_yield
-returns g c = record { reads = λ w s a. no _ (sym (c.opens_behind.ensures w s a) ∙ c.if-opens_behind.false) (no _ (sym (c.arguments_behind.ensures w s a) ∙ c.if-arguments_behind.false) (c.leaf.ensures.gives _ w s (at_spot (c.spot_here-here.ensures _ _ a) (yield_spread (search rules) (c.yield_with.ensures.made _ _ (c.new-arguments.ensures _)))) a)) }
+returns g c = record { reads = λ w s a. no _ (sym (c.opens_behind.ensures w s a) ∙ c.if-opens_behind.false) (no _ (sym (c.arguments_behind.ensures w s a) ∙ c.if-arguments_behind.false) (c.leaf.ensures.gives _ w s (at_spot (c.position_here-here.ensures _ _ a) (yield_spread (search rules) (c.yield_with.ensures.made _ _ (c.new-arguments.ensures _)))) a)) }

@@ -1,7 +1,7 @@
 use Rattle.std.proofs.Common.{sym, ◌∙◌}
-use Rattle.ruby_parts.proofs.GoesOn.{later, named_later}
-use Rattle.list_reader.specs.Answers.{fault}
-use Rattle.list_reader.specs.ReadOperands.{read_call}
+use Rattle.tree_builder.proofs.GoesOn.{later, named_later}
+use Rattle.reference_parser.specs.Answers.{fault}
+use Rattle.reference_parser.specs.ReadOperands.{read_call}
 use Rattle.parse_state.proofs.Steps.{here, later_same, later_then, later_of}
 use Rattle.parse_operands.specs.Operands.{holds_attribute}
 use Rattle.parse_operands.specs.Turns.{longer, ended, no_syntax}
@@ -15,11 +15,11 @@ returns-in_err-name-clause-turns g c = λ F o b w s e h a. turn_handed _ _ c.fro
 
 pub returns-then-arguments_here-clause-turns : goal.returns-then-arguments_here-clause-turns
 unfolding read_call
-returns-then-arguments_here-clause-turns g c = λ F o b w s e h a. turn_from c.bump.ensures.later (turn_found (c.in_ok-name.ensures.finds _ _ (c.bump.ensures.at w s a)) (λ t1 r1 b1 l1 h1. turn_yes _ (sym (c.arguments_here.ensures _ _ b1) ∙ c.if-arguments_here.true) (ended b1 (later_same _) (command_as (c.is_mark-safe.ensures w s a) (later _ _ (later_then c.bump.ensures.later l1).names _ _ h) (c.spot_from-spot.ensures o _ _ e (c.bump.ensures.at w s a)) h1))))
+returns-then-arguments_here-clause-turns g c = λ F o b w s e h a. turn_from c.bump.ensures.later (turn_found (c.in_ok-name.ensures.finds _ _ (c.bump.ensures.at w s a)) (λ t1 r1 b1 l1 h1. turn_yes _ (sym (c.arguments_here.ensures _ _ b1) ∙ c.if-arguments_here.true) (ended b1 (later_same _) (command_as (c.is_mark-safe.ensures w s a) (later _ _ (later_then c.bump.ensures.later l1).names _ _ h) (c.position_from-position.ensures o _ _ e (c.bump.ensures.at w s a)) h1))))
 
 pub returns-then-may_be_set-clause-turns : goal.returns-then-may_be_set-clause-turns
 unfolding read_call
-returns-then-may_be_set-clause-turns g c = λ F o b w s e h a. turn_from c.bump.ensures.later (turn_found (c.in_ok-name.ensures.finds _ _ (c.bump.ensures.at w s a)) (λ t1 r1 b1 l1 h1. turn_no _ (sym (c.arguments_here.ensures _ _ b1) ∙ c.if-arguments_here.false) (turn_yes _ (sym (c.assigns_here.ensures _ _ b1) ∙ c.if-assigns_here.true) (turn_yes fault (sym (c.attribute_here-may_be_set.ensures w s a) ∙ c.if-may_be_set.true) (ended b1 (later_same _) (holds_attribute (later _ _ (later_then c.bump.ensures.later l1).names _ _ h) (c.spot_from-spot.ensures o _ _ e (c.bump.ensures.at w s a)) h1))))))
+returns-then-may_be_set-clause-turns g c = λ F o b w s e h a. turn_from c.bump.ensures.later (turn_found (c.in_ok-name.ensures.finds _ _ (c.bump.ensures.at w s a)) (λ t1 r1 b1 l1 h1. turn_no _ (sym (c.arguments_here.ensures _ _ b1) ∙ c.if-arguments_here.false) (turn_yes _ (sym (c.assigns_here.ensures _ _ b1) ∙ c.if-assigns_here.true) (turn_yes fault (sym (c.attribute_here-may_be_set.ensures w s a) ∙ c.if-may_be_set.true) (ended b1 (later_same _) (holds_attribute (later _ _ (later_then c.bump.ensures.later l1).names _ _ h) (c.position_from-position.ensures o _ _ e (c.bump.ensures.at w s a)) h1))))))
 
 pub returns-then-assigns_here-clause-turns : goal.returns-then-assigns_here-clause-turns
 unfolding read_call
@@ -34,7 +34,7 @@ returns-in_err-whole-clause-turns g c = λ F o b w s e h a. turn_wanting _ c.fro
 
 pub returns-clause-turns : goal.returns-clause-turns
 unfolding read_call
-returns-clause-turns g c = λ F o b w s e h a. turn_from c.bump.ensures.later (turn_found (c.in_ok-name.ensures.finds _ _ (c.bump.ensures.at w s a)) (λ t1 r1 b1 l1 h1. turn_no _ (sym (c.arguments_here.ensures _ _ b1) ∙ c.if-arguments_here.false) (turn_no _ (sym (c.assigns_here.ensures _ _ b1) ∙ c.if-assigns_here.false) (turn_then (c.in_ok-arguments.ensures.reads _ _ b1) (λ t2 r2 z2 b2 l2 h2. let m = later_then c.bump.ensures.later (later_then l1 l2) in longer b2 (later_same _) (call_as b t2.given t1 t2.block (c.is_mark-safe.ensures w s a) (c.spot_from-spot.ensures o _ _ e (c.bump.ensures.at w s a)) (c.in_ok-whole.ensures.made _ b t2.given t1 _ (later _ _ m.names _ _ h) h2.trees h2.spread h2.value (named_later _ _ l2.names _ _ h1) h2.block)))))))
+returns-clause-turns g c = λ F o b w s e h a. turn_from c.bump.ensures.later (turn_found (c.in_ok-name.ensures.finds _ _ (c.bump.ensures.at w s a)) (λ t1 r1 b1 l1 h1. turn_no _ (sym (c.arguments_here.ensures _ _ b1) ∙ c.if-arguments_here.false) (turn_no _ (sym (c.assigns_here.ensures _ _ b1) ∙ c.if-assigns_here.false) (turn_then (c.in_ok-arguments.ensures.reads _ _ b1) (λ t2 r2 z2 b2 l2 h2. let m = later_then c.bump.ensures.later (later_then l1 l2) in longer b2 (later_same _) (call_as b t2.given t1 t2.block (c.is_mark-safe.ensures w s a) (c.position_from-position.ensures o _ _ e (c.bump.ensures.at w s a)) (c.in_ok-whole.ensures.made _ b t2.given t1 _ (later _ _ m.names _ _ h) h2.trees h2.spread h2.value (named_later _ _ l2.names _ _ h1) h2.block)))))))
 
 pub returns-clause-shorter : goal.returns-clause-shorter
 returns-clause-shorter g c = λ u. shrinks _ _ _ _ c.bump.ensures.rest (found_later (c.in_ok-name.ensures.finds _ _ (here _))).rest (later_of (c.in_ok-arguments.ensures.reads _ _ (here _))).rest

@@ -1,6 +1,6 @@
 use Rattle.std.proofs.Common.{sym, le_trans, ◌∙◌}
-use Rattle.ruby_parts.proofs.GoesOn.{later, all_later, other_later}
-use Rattle.list_reader.specs.ReadOperands.{end_index}
+use Rattle.tree_builder.proofs.GoesOn.{later, all_later, other_later}
+use Rattle.reference_parser.specs.ReadOperands.{end_index}
 use Rattle.parse_state.proofs.Steps.{here, later_same, later_then, later_of}
 use Rattle.parse_operands.specs.Turns.{longer, no_syntax}
 use Rattle.parse_operands.proofs.Tools.{at_spot, send_spread}

@@ -1,7 +1,7 @@
 use Rattle.std.proofs.Common.{sym, not, codes, length, ◌∙◌}
 use Rattle.ruby_tree.specs.Rules.{blank}
-use Rattle.list_reader.specs.ReadItems.{Readers}
-use Rattle.list_reader.specs.ReadOperands.{postfix_at}
+use Rattle.reference_parser.specs.ReadItems.{Readers}
+use Rattle.reference_parser.specs.ReadOperands.{postfix_at}
 use Rattle.parse_state.specs.Standing.{toks_of, scope_of}
 use Rattle.parse_state.proofs.Steps.{here, later_same}
 use Rattle.parse_operands.specs.Operands.{holds_operand}

@@ -1,6 +1,6 @@
 use Rattle.std.proofs.Common.{sym, ◌∙◌}
-use Rattle.ruby_parts.proofs.GoesOn.{later, named_later}
-use Rattle.list_reader.specs.ReadOperands.{path_at}
+use Rattle.tree_builder.proofs.GoesOn.{later, named_later}
+use Rattle.reference_parser.specs.ReadOperands.{path_at}
 use Rattle.parse_state.proofs.Steps.{here, later_same, later_then, later_of}
 use Rattle.parse_operands.specs.Turns.{longer, no_syntax}
 use Rattle.parse_operands.proofs.Turning.{turn_from, turn_yes, turn_no, turn_handed, turn_wanting, turn_step, turn_cut}

@@ -1,4 +1,4 @@
-use Rattle.list_reader.specs.ReadOperands.{read_postfix}
+use Rattle.reference_parser.specs.ReadOperands.{read_postfix}
 use Rattle.parse_state.proofs.Steps.{failed, handed}
 use Rattle.parse_operands.proofs.Tools.{so}
 use Rattle.parse_operands.proofs.Counts.{under}
@@ -10,4 +10,4 @@ returns-in_err-operand g c = record { reads = λ w s a. handed _ _ c.from_residu
 
 pub returns : goal.returns
 unfolding read_postfix
-returns g c = record { reads = λ w s a. so (c.in_ok-operand.ensures.reads _ _ a) (λ t1 r1 z1 b1 l1 h1. c.postfixes.ensures.reads w t1 (c.spot_here-here.ensures _ _ a) h1 _ _ _ b1 (under _)) }
+returns g c = record { reads = λ w s a. so (c.in_ok-operand.ensures.reads _ _ a) (λ t1 r1 z1 b1 l1 h1. c.postfixes.ensures.reads w t1 (c.position_here-here.ensures _ _ a) h1 _ _ _ b1 (under _)) }

@@ -2,8 +2,8 @@ use Rattle.std.proofs.Common.{rules, refl}
 use Rattle.std.proofs.lemmas.Int.{to_z-of_z}
 use Rattle.ruby_lexer.specs.Pieces.{seen_parts}
 use Rattle.ruby_tree.specs.Rules.{front}
-use Rattle.ruby_sight.specs.Sights.{integer_in, literal_in, symbol_in, words_in, symbols_in}
-use Rattle.list_reader.specs.ReadItems.{Readers}
+use Rattle.token_lookahead.specs.Lookaheads.{integer_in, literal_in, symbol_in, words_in, symbols_in}
+use Rattle.reference_parser.specs.ReadItems.{Readers}
 use Rattle.parse_state.specs.Gives.{no_syntax}
 use Rattle.parse_state.proofs.Steps.{named}
 use Rattle.parse_operands.proofs.Tools.{at_spot, integer_as}
@@ -13,7 +13,7 @@ use mir.Val.{SFits}
 use Rattle.parse_operands.proofs.primaries.held.Goals as goal
 
 pub returns-in-Some : goal.returns-in-Some
-returns-in-Some g c = let f : SFits w64 c.in-Some.value = search rules in record { reads = λ w s a. let Q : Readers = g.N.Nested.readers c.args.nested.now c.args.context.source.now in named (held_integer c.args.context.source.now Q w s (front w) c.in-Some.value (shown integer_in c.in-Some.ensures (c.tokens_here-tokens.ensures w s a) refl)) (c.leaf.ensures.gives _ w s (at_spot (c.spot_here-here.ensures _ _ a) (integer_as (to_z-of_z w64 c.in-Some.value f) (c.integer-in-Some.ensures.made _))) a) }
+returns-in-Some g c = let f : SFits w64 c.in-Some.value = search rules in record { reads = λ w s a. let Q : Readers = g.N.Nested.readers c.args.nested.now c.args.context.source.now in named (held_integer c.args.context.source.now Q w s (front w) c.in-Some.value (shown integer_in c.in-Some.ensures (c.tokens_here-tokens.ensures w s a) refl)) (c.leaf.ensures.gives _ w s (at_spot (c.position_here-here.ensures _ _ a) (integer_as (to_z-of_z w64 c.in-Some.value f) (c.integer-in-Some.ensures.made _))) a) }
 
 pub returns-in-Some-literal : goal.returns-in-Some-literal
 returns-in-Some-literal g c = record { reads = λ w s a. let Q : Readers = g.N.Nested.readers c.args.nested.now c.args.context.source.now in named (held_literal c.args.context.source.now Q w s (front w) (seen_parts c.in-Some-literal.parts.now) (shown literal_in c.in-Some-literal.ensures (c.tokens_here-tokens.ensures w s a) refl)) (c.literal-in-Some-literal.ensures.reads w s a) }

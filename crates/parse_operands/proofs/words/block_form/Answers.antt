@@ -1,5 +1,5 @@
 use Rattle.std.proofs.Common.{sym, true, false, ◌∙◌}
-use Rattle.list_reader.specs.ReadOperands.{block_form_at}
+use Rattle.reference_parser.specs.ReadOperands.{block_form_at}
 use Rattle.parse_state.specs.Gives.{no_syntax}
 use Rattle.parse_state.proofs.Steps.{yes, no}
 use Rattle.parse_operands.proofs.words.block_form.Goals as goal

@@ -1,5 +1,5 @@
 use Rattle.std.proofs.Common.{sym, true, false, ◌∙◌}
-use Rattle.list_reader.specs.ReadOperands.{choice, read_form}
+use Rattle.reference_parser.specs.ReadOperands.{choice, read_form}
 use Rattle.parse_state.proofs.Steps.{yes, no}
 use Rattle.parse_operands.proofs.words.form.Goals as goal
 

@@ -1,4 +1,4 @@
-use Rattle.list_reader.specs.ReadStatements.{read_arg}
+use Rattle.reference_parser.specs.ReadStatements.{read_arg}
 use Rattle.parse_statements.proofs.arguments.argument.Goals as goal
 
 pub returns : goal.returns

@@ -1,6 +1,6 @@
 use Rattle.std.proofs.Common.{sym, ap, ◌∙◌}
-use Rattle.ruby_tree.specs.Rules.{spot}
-use Rattle.list_reader.specs.ReadStatements.{read_unset}
+use Rattle.ruby_tree.specs.Rules.{position}
+use Rattle.reference_parser.specs.ReadStatements.{read_unset}
 use Rattle.parse_state.proofs.Steps.{yes, no, and_then, failed, handed}
 use Rattle.parse_state.proofs.Seen.{sees}
 use Rattle.parse_statements.proofs.arguments.unset.Goals as goal
@@ -19,4 +19,4 @@ returns-in_err-start g c = record { reads = λ w s a. handed _ _ c.from_residual
 
 pub returns : goal.returns
 unfolding read_unset
-returns g c = record { reads = λ w s a. no _ (sym (c.begins_operator.ensures w s a) ∙ c.if-begins_operator.false) (and_then (c.in_ok-start.ensures.reads w s a) (λ t r z b h. c.behind_start.ensures.reads w t (c.spot-here.ensures ∙ ap spot (sees c.sight.ensures.rest a)) h r z b)) }
+returns g c = record { reads = λ w s a. no _ (sym (c.begins_operator.ensures w s a) ∙ c.if-begins_operator.false) (and_then (c.in_ok-start.ensures.reads w s a) (λ t r z b h. c.behind_start.ensures.reads w t (c.position-here.ensures ∙ ap position (sees c.lookahead.ensures.rest a)) h r z b)) }

@@ -1,5 +1,5 @@
-use Rattle.ruby_parts.proofs.GoesOn.{later, all_later, other_later, named_later}
-use Rattle.list_reader.specs.ReadStatements.{command_by}
+use Rattle.tree_builder.proofs.GoesOn.{later, all_later, other_later, named_later}
+use Rattle.reference_parser.specs.ReadStatements.{command_by}
 use Rattle.parse_state.specs.Gives.{gave}
 use Rattle.parse_state.proofs.Steps.{later_same, later_then, failed, handed, wanting}
 use Rattle.parse_operands.proofs.Tools.{so}

@@ -1,5 +1,5 @@
 use Rattle.std.proofs.Common.{sym, ap, ◌∙◌}
-use Rattle.ruby_tree.specs.Rules.{next, spot}
+use Rattle.ruby_tree.specs.Rules.{next, position}
 use Rattle.parse_state.specs.Gives.{gave, no_syntax}
 use Rattle.parse_state.proofs.Steps.{later_same, from, yes, no, failed, handed}
 use Rattle.parse_state.proofs.Seen.{sees}
@@ -13,4 +13,4 @@ pub returns-then-has_block : goal.returns-then-has_block
 returns-then-has_block g c = record { reads = λ w s a. from c.bump.ensures.later (so (c.in_ok-given.ensures.reads (next w) s (c.bump.ensures.at w s a)) (λ t1 r1 z1 b1 l1 h1. yes _ (sym (c.has_block.ensures c.command_items.new.parser.symbols t1 h1) ∙ c.if-has_block.true) no_syntax)) }
 
 pub returns : goal.returns
-returns g c = record { reads = λ w s a. from c.bump.ensures.later (so (c.in_ok-given.ensures.reads (next w) s (c.bump.ensures.at w s a)) (λ t1 r1 z1 b1 l1 h1. no _ (sym (c.has_block.ensures c.command_items.new.parser.symbols t1 h1) ∙ c.if-has_block.false) (gave b1 (later_same _) (at_spot (c.spot-here.ensures ∙ ap spot (sees c.sight.ensures.rest a)) (yield_spread h1.spread (c.yield_with.ensures.made c.command_items.new.parser.symbols t1.trees h1.trees)))))) }
+returns g c = record { reads = λ w s a. from c.bump.ensures.later (so (c.in_ok-given.ensures.reads (next w) s (c.bump.ensures.at w s a)) (λ t1 r1 z1 b1 l1 h1. no _ (sym (c.has_block.ensures c.command_items.new.parser.symbols t1 h1) ∙ c.if-has_block.false) (gave b1 (later_same _) (at_spot (c.position-here.ensures ∙ ap position (sees c.lookahead.ensures.rest a)) (yield_spread h1.spread (c.yield_with.ensures.made c.command_items.new.parser.symbols t1.trees h1.trees)))))) }

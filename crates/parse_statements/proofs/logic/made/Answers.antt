@@ -1,4 +1,4 @@
-use Rattle.parse_statements.specs.declared.logic.Joining.TheVariants as joining
+use Rattle.parse_statements.specs.declared.logic.LogicalOperator.TheVariants as joining
 use Rattle.parse_statements.proofs.StatementLoops.{joined_as}
 use Rattle.parse_statements.proofs.logic.made.Goals as goal
 

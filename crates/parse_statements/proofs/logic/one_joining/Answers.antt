@@ -1,4 +1,4 @@
-use Rattle.ruby_parts.proofs.GoesOn.{later}
+use Rattle.tree_builder.proofs.GoesOn.{later}
 use Rattle.parse_state.specs.Gives.{gave}
 use Rattle.parse_state.proofs.Steps.{here, from, and_then, failed, handed, wanting, later_same, later_then, later_of}
 use Rattle.parse_statements.proofs.Growing.{fewer_than}

@@ -1,6 +1,6 @@
 use Rattle.std.proofs.Common.{ap, ◌∙◌}
-use Rattle.ruby_tree.specs.Rules.{next, spot}
-use Rattle.ruby_parts.proofs.GoesOn.{later}
+use Rattle.ruby_tree.specs.Rules.{next, position}
+use Rattle.tree_builder.proofs.GoesOn.{later}
 use Rattle.parse_state.specs.Gives.{gave}
 use Rattle.parse_state.proofs.Steps.{here, from, and_then, failed, handed, wanting, later_same, later_then, later_of}
 use Rattle.parse_state.proofs.Seen.{sees}
@@ -17,8 +17,8 @@ pub returns-clause-reads : goal.returns-clause-reads
 returns-clause-reads g c = λ o b a at told h w s n.
     let read = c.in_ok-condition.ensures.reads _ _ (c.bump.ensures.at w s n) in
     let on = later_then c.bump.ensures.later (later_of read) in
-    let first = sees c.sight-sight.ensures.rest n in
-    from c.bump.ensures.later (and_then read (λ x r z m k. gave m (later_same _) (c.in_ok-made.ensures.made _ o w b a x at (c.spot-word.ensures ∙ ap spot first) (c.spot-behind.ensures ∙ ap spot (c.next.ensures.seen ∙ ap next first)) told (later _ _ on.names _ _ h) k)))
+    let first = sees c.lookahead-lookahead.ensures.rest n in
+    from c.bump.ensures.later (and_then read (λ x r z m k. gave m (later_same _) (c.in_ok-made.ensures.made _ o w b a x at (c.position-word.ensures ∙ ap position first) (c.position-behind.ensures ∙ ap position (c.next.ensures.seen ∙ ap next first)) told (later _ _ on.names _ _ h) k)))
 
 pub returns-clause-fewer : goal.returns-clause-fewer
 returns-clause-fewer g c = λ x is. fewer_than c.bump.ensures.rest (later_of (c.in_ok-condition.ensures.reads _ _ (here _)))

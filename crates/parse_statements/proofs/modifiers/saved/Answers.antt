@@ -1,5 +1,5 @@
 use Rattle.std.proofs.Common.{sym}
-use Rattle.ruby_parts.proofs.GoesOn.{later}
+use Rattle.tree_builder.proofs.GoesOn.{later}
 use Rattle.parse_state.specs.Gives.{gave}
 use Rattle.parse_state.proofs.Steps.{from, and_then, failed, handed}
 use Rattle.parse_statements.proofs.modifiers.saved.Goals as goal

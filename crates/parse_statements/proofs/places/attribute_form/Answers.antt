@@ -1,6 +1,6 @@
 use Rattle.std.proofs.Common.{codes, ◌++◌}
 use Rattle.ruby_tree.specs.Rules.{is_mark}
-use Rattle.ruby_parts.proofs.GoesOn.{later, named_later}
+use Rattle.tree_builder.proofs.GoesOn.{later, named_later}
 use Rattle.parse_state.specs.Gives.{gave}
 use Rattle.parse_state.proofs.Steps.{cut, handed, later_of, later_same, step, wanting}
 use Rattle.parse_state.proofs.Seen.{seen_in}

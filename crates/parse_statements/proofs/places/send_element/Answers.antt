@@ -1,8 +1,8 @@
 use Rattle.std.proofs.Common.{ap, ℕ, ◌∙◌}
 use Rattle.ruby_tree.specs.Tree.{at, operate_index}
 use Rattle.ruby_tree.specs.Rules.{line_at, word, but_last}
-use Rattle.ruby_tree.specs.Spots.{spot_of}
-use Rattle.ruby_parts.proofs.GoesOn.{later}
+use Rattle.ruby_tree.specs.SourcePositions.{position_of}
+use Rattle.tree_builder.proofs.GoesOn.{later}
 use Rattle.parse_state.specs.Gives.{gave}
 use Rattle.parse_state.proofs.Steps.{cut, handed, later_of, later_same, step, wanting}
 use Rattle.parse_statements.proofs.Settings.{made_of}
@@ -21,6 +21,6 @@ returns c = record {
       let l = later_of sends in
       let operator = but_last (word c.args.context.source.now q) in
       step sends (λ b f. gave b (later_same _)
-      (made_of (λ (line : ℕ). at (spot_of c.args.here) (operate_index t i v operator line)) (c.line_at-line.ensures ∙ ap line_at sees)
+      (made_of (λ (line : ℕ). at (position_of c.args.here) (operate_index t i v operator line)) (c.line_at-line.ensures ∙ ap line_at sees)
       (c.in_ok-operate_index.ensures.made _ t i v operator (later _ _ l.names _ _ h) (later _ _ l.names _ _ j) (later _ _ l.names _ _ k) f)));
 }

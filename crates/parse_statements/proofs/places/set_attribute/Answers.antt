@@ -1,5 +1,5 @@
-use Rattle.ruby_parts.proofs.GoesOn.{later, named_later}
-use Rattle.list_reader.specs.ReadStatements.{start_by}
+use Rattle.tree_builder.proofs.GoesOn.{later, named_later}
+use Rattle.reference_parser.specs.ReadStatements.{start_by}
 use Rattle.parse_state.proofs.Steps.{and_then, failed, from, handed, later_of, later_then}
 use Rattle.parse_state.proofs.Seen.{sees}
 use Rattle.parse_statements.proofs.places.set_attribute.Goals as goal
@@ -14,5 +14,5 @@ returns g c = record {
   reads = λ b o t m h n w s a.
       let read = c.in_ok-value.ensures.reads _ _ (c.bump.ensures.at w s a) in
       let on = later_then c.bump.ensures.later (later_of read) in
-      from c.bump.ensures.later (and_then read (λ v r z e k. c.attribute_form.ensures.gives w t v m c.sight-operator.ensures.source (sees c.sight-operator.ensures.rest a) (later _ _ on.names _ _ h) (named_later _ _ on.names _ _ n) k r z e));
+      from c.bump.ensures.later (and_then read (λ v r z e k. c.attribute_form.ensures.gives w t v m c.lookahead-operator.ensures.source (sees c.lookahead-operator.ensures.rest a) (later _ _ on.names _ _ h) (named_later _ _ on.names _ _ n) k r z e));
 }

@@ -1,7 +1,7 @@
 use Rattle.std.proofs.Common.{sym, ap, ◌∙◌, ◌++◌, codes}
 use Rattle.ruby_lexer.specs.Bytes.{Bytes}
-use Rattle.ruby_parts.proofs.GoesOn.{extends_same}
-use Rattle.list_reader.specs.Answers.{taken}
+use Rattle.tree_builder.proofs.GoesOn.{extends_same}
+use Rattle.reference_parser.specs.Answers.{taken}
 use Rattle.parse_state.proofs.Steps.{named, wanting}
 use Rattle.parse_statements.proofs.places.setter_of.Goals as goal
 

@@ -1,6 +1,6 @@
 use Rattle.ruby_tree.specs.Tree.{no_more}
 use Rattle.parse_state.proofs.Steps.{named}
-use Rattle.parse_items.proofs.Turning.{begins, goes_more, goes_fewer, goes_end, goes_stop}
+use Rattle.parse_parts.proofs.Turning.{begins, goes_more, goes_fewer, goes_end, goes_stop}
 use Rattle.parse_statements.specs.Statements.{statement_turn}
 use Rattle.parse_statements.proofs.StatementLoops.{statements_unroll, statements_whole}
 use Rattle.parse_statements.proofs.sequences.statement_list.Goals as goal

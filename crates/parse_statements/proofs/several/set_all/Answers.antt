@@ -1,11 +1,11 @@
 use Rattle.std.proofs.Common.{ap, ◌∙◌}
-use Rattle.ruby_tree.specs.Rules.{spot}
-use Rattle.ruby_parts.proofs.GoesOn.{targets_later}
+use Rattle.ruby_tree.specs.Rules.{position}
+use Rattle.tree_builder.proofs.GoesOn.{targets_later}
 use Rattle.parse_state.specs.Gives.{gave}
 use Rattle.parse_state.proofs.Steps.{and_then, failed, handed, expected, unexpected, later_same, later_then, later_of}
 use Rattle.parse_state.proofs.Seen.{sees}
-use Rattle.parse_items.proofs.Parts.{spot_held}
-use Rattle.parse_items.proofs.Turning.{met_later}
+use Rattle.parse_parts.proofs.Parts.{spot_held}
+use Rattle.parse_parts.proofs.Turning.{met_later}
 use Rattle.parse_statements.proofs.several.set_all.Goals as goal
 
 pub returns-in_err-targets : goal.returns-in_err-targets
@@ -24,5 +24,5 @@ returns g c = record {
       expected mark (λ e.
       let read = c.in_ok-values.ensures.reads _ _ e in
       let on = later_then (met_later mark) (later_of read) in
-      and_then read (λ vs r z n i. gave n (later_same _) (spot_held (c.spot-here.ensures ∙ ap spot (sees c.sight.ensures.rest a)) (c.assign_all.ensures.made _ vs gs i (targets_later _ _ on.names _ _ h))))));
+      and_then read (λ vs r z n i. gave n (later_same _) (spot_held (c.position-here.ensures ∙ ap position (sees c.lookahead.ensures.rest a)) (c.assign_all.ensures.made _ vs gs i (targets_later _ _ on.names _ _ h))))));
 }

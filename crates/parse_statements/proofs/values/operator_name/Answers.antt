@@ -1,7 +1,7 @@
 use Rattle.std.proofs.Common.{sym, ap, ◌∙◌}
 use Rattle.ruby_lexer.specs.Bytes.{Bytes}
 use Rattle.ruby_tree.specs.Rules.{word, but_last}
-use Rattle.list_reader.specs.Answers.{taken}
+use Rattle.reference_parser.specs.Answers.{taken}
 use Rattle.parse_state.proofs.Steps.{named}
 use Rattle.parse_state.proofs.Seen.{seen_as}
 use Rattle.parse_statements.proofs.values.operator_name.Goals as goal

@@ -1,6 +1,6 @@
 use Rattle.std.proofs.Common.{sym, ap, ◌∙◌}
-use Rattle.ruby_tree.specs.Rules.{spot}
-use Rattle.ruby_parts.proofs.GoesOn.{later}
+use Rattle.ruby_tree.specs.Rules.{position}
+use Rattle.tree_builder.proofs.GoesOn.{later}
 use Rattle.parse_state.specs.Gives.{gave}
 use Rattle.parse_state.proofs.Steps.{and_then, failed, from, handed, wanting, later_of, later_then}
 use Rattle.parse_state.proofs.Seen.{sees}
@@ -20,5 +20,5 @@ returns g c = record {
       let m = later_of (c.in_ok-saved.ensures.reads _ _ inside) in
       let n = later_then (later_then c.bump.ensures.later c.enter_clause.ensures.later) (later_then m c.go_behind.ensures.later) in
       gave (c.go_behind.ensures.at r s z (sym a.clause) b) c.go_behind.ensures.later
-      (c.in_ok-rescued.ensures.made _ o w t e at (c.spot-clause.ensures ∙ ap (λ v. spot v) (sees c.sight.ensures.rest a)) (c.spot-behind.ensures ∙ ap (λ v. spot v) (sees c.sight-2.ensures.rest (c.bump.ensures.at w s a))) (later _ _ n.names _ _ h) (later _ _ c.go_behind.ensures.later.names _ _ i))));
+      (c.in_ok-rescued.ensures.made _ o w t e at (c.position-clause.ensures ∙ ap (λ v. position v) (sees c.lookahead.ensures.rest a)) (c.position-behind.ensures ∙ ap (λ v. position v) (sees c.lookahead-2.ensures.rest (c.bump.ensures.at w s a))) (later _ _ n.names _ _ h) (later _ _ c.go_behind.ensures.later.names _ _ i))));
 }

@@ -1,7 +1,7 @@
 use Rattle.std.proofs.Common.{ap}
 use Rattle.ruby_tree.specs.Rules.{word, declared}
-use Rattle.ruby_sight.specs.Sights.{goal_with}
-use Rattle.list_reader.specs.Answers.{taken}
+use Rattle.token_lookahead.specs.Lookaheads.{goal_with}
+use Rattle.reference_parser.specs.Answers.{taken}
 use Rattle.parse_state.specs.Gives.{gave}
 use Rattle.parse_state.proofs.Steps.{named, later_same}
 use Rattle.parse_statements.proofs.variables.declare_if.Goals as goal

@@ -1,9 +1,9 @@
 use Rattle.std.proofs.Common.{ap, ◌∙◌}
 use Rattle.ruby_tree.specs.Tree.{at, assign, to_constant}
-use Rattle.ruby_tree.specs.Rules.{spot, word}
-use Rattle.ruby_parts.proofs.GoesOn.{named_later}
-use Rattle.ruby_parts.proofs.Targets.{constant_named}
-use Rattle.list_reader.specs.ReadStatements.{set_by}
+use Rattle.ruby_tree.specs.Rules.{position, word}
+use Rattle.tree_builder.proofs.GoesOn.{named_later}
+use Rattle.tree_builder.proofs.Targets.{constant_named}
+use Rattle.reference_parser.specs.ReadStatements.{set_by}
 use Rattle.parse_state.specs.Gives.{gave}
 use Rattle.parse_state.proofs.Steps.{and_then, cut, failed, from, handed, wanting, later_of, later_same, later_then, step}
 use Rattle.parse_state.proofs.Seen.{sees}
@@ -27,5 +27,5 @@ returns g c = record {
       let read = c.in_ok-value.ensures.reads _ _ (c.bump-2.ensures.at _ _ (c.bump.ensures.at _ _ b)) in
       let on = later_then (later_then c.bump.ensures.later c.bump-2.ensures.later) (later_of read) in
       from (later_then c.bump.ensures.later c.bump-2.ensures.later) (and_then read (λ v r z e h.
-      gave e (later_same _) (made_of (λ u. at u (assign v (to_constant (word c.args.context.source.now w)))) (c.spot-here.ensures ∙ ap (λ t. spot t) (sees c.sight.ensures.rest a)) (c.in_ok-assign.ensures.made _ v _ h (constant_named _ _ _ (named_later _ _ on.names _ _ n)))))));
+      gave e (later_same _) (made_of (λ u. at u (assign v (to_constant (word c.args.context.source.now w)))) (c.position-here.ensures ∙ ap (λ t. position t) (sees c.lookahead.ensures.rest a)) (c.in_ok-assign.ensures.made _ v _ h (constant_named _ _ _ (named_later _ _ on.names _ _ n)))))));
 }

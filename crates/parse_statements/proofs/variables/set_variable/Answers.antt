@@ -1,8 +1,8 @@
 use Rattle.std.proofs.Common.{ap, ◌∙◌}
-use Rattle.ruby_tree.specs.Rules.{spot, next, word}
-use Rattle.ruby_sight.specs.Sights.{goal_with}
-use Rattle.ruby_parts.proofs.GoesOn.{target_later}
-use Rattle.list_reader.specs.ReadStatements.{set_by}
+use Rattle.ruby_tree.specs.Rules.{position, next, word}
+use Rattle.token_lookahead.specs.Lookaheads.{goal_with}
+use Rattle.tree_builder.proofs.GoesOn.{target_later}
+use Rattle.reference_parser.specs.ReadStatements.{set_by}
 use Rattle.parse_state.proofs.Steps.{and_then, cut, failed, from, handed, later_of, later_then, step}
 use Rattle.parse_state.proofs.Seen.{sees}
 use Rattle.parse_statements.proofs.variables.set_variable.Goals as goal
@@ -24,5 +24,5 @@ returns g c = record {
       let read = c.in_ok-value.ensures.reads _ _ (c.bump-2.ensures.at _ _ (c.bump.ensures.at _ _ d)) in
       let on = later_then (later_of (c.in_ok-declare_if.ensures.gives w s b)) (later_then (later_then c.bump.ensures.later c.bump-2.ensures.later) (later_of read)) in
       from (later_then c.bump.ensures.later c.bump-2.ensures.later) (and_then read (λ v r z e h.
-      c.variable_form.ensures.gives w (next w) (goal_with (word c.args.context.source.now w) c.args.settable) v (c.spot-here.ensures ∙ ap (λ t. spot t) (sees c.sight.ensures.rest a)) c.sight-operator.ensures.source (sees c.sight-operator.ensures.rest (c.bump.ensures.at _ _ d)) (target_later _ _ on.names _ _ i) h r z e))));
+      c.variable_form.ensures.gives w (next w) (goal_with (word c.args.context.source.now w) c.args.settable) v (c.position-here.ensures ∙ ap (λ t. position t) (sees c.lookahead.ensures.rest a)) c.lookahead-operator.ensures.source (sees c.lookahead-operator.ensures.rest (c.bump.ensures.at _ _ d)) (target_later _ _ on.names _ _ i) h r z e))));
 }

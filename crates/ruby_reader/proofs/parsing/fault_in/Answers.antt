@@ -4,7 +4,7 @@ use Rattle.ruby_tree.specs.declared.surroundings.Misplaced.{Misplaced}
 use Rattle.ruby_tree.specs.Placement.{faults, at_home, file}
 use Rattle.ruby_tree.specs.FirstFault.{IsFirstFault}
 use Rattle.ruby_tree.specs.Read.{tree_of}
-use Rattle.ruby_reader.specs.ReadingOf.{fault}
+use Rattle.reference_parser.specs.ReadingOf.{fault}
 use Rattle.ruby_reader.proofs.Judging.{not_whole, tree_too_deep, misplaced, all_placed}
 use Rattle.ruby_reader.proofs.parsing.fault_in.Goals as goal
 

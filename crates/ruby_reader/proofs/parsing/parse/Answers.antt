@@ -2,7 +2,7 @@ use Rattle.std.proofs.Common.{sym, ap}
 use Rattle.ruby_lexer.specs.Bytes.{Bytes}
 use Rattle.ruby_lexer.specs.Pieces.{seen_all}
 use Rattle.ruby_tree.specs.Rules.{fresh, own}
-use Rattle.list_reader.specs.ReadStatements.{readers}
+use Rattle.reference_parser.specs.ReadStatements.{readers}
 use Rattle.ruby_reader.proofs.Judging.{parse_failed, parsed}
 use Rattle.ruby_reader.proofs.parsing.parse.Goals as goal
 

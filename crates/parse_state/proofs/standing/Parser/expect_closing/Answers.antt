@@ -1,5 +1,5 @@
 use Rattle.std.proofs.Common.{sym, ◌∙◌}
-use Rattle.list_reader.specs.ReadItems.{closed}
+use Rattle.reference_parser.specs.ReadItems.{closed}
 use Rattle.parse_state.proofs.Steps.{yes, no, from, closes}
 use Rattle.parse_state.proofs.standing.Parser.expect_closing.Goals as goal
 

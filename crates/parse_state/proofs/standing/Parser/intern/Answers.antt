@@ -1,5 +1,5 @@
 use Rattle.std.proofs.Common.{rules}
-use Rattle.ruby_parts.proofs.GoesOn.{interned}
+use Rattle.tree_builder.proofs.GoesOn.{interned}
 use Rattle.parse_state.specs.Gives.{gave}
 use Rattle.parse_state.proofs.Steps.{wanting}
 use Rattle.parse_state.proofs.standing.Parser.intern.Goals as goal

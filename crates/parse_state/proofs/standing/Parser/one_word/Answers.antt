@@ -1,4 +1,4 @@
-use Rattle.ruby_parts.proofs.GoesOn.{named_later}
+use Rattle.tree_builder.proofs.GoesOn.{named_later}
 use Rattle.parse_state.specs.Gives.{finds}
 use Rattle.parse_state.proofs.Steps.{finds_handed, finds_step, finds_cut}
 use Rattle.parse_state.proofs.standing.Parser.one_word.Goals as goal

@@ -1,5 +1,5 @@
 use Rattle.std.proofs.Common.{true, refl, sym, ◌∙◌}
-use Rattle.list_reader.specs.Fronts.{on_self_at}
+use Rattle.reference_parser.specs.Fronts.{on_self_at}
 use Rattle.parse_state.specs.Gives.{finds}
 use Rattle.parse_state.proofs.Steps.{finds_yes, finds_no, finds_handed, finds_met, finds_unmet, later_same}
 use Rattle.parse_state.proofs.standing.Parser.skip_self.Goals as goal

@@ -1,4 +1,0 @@
-use Rattle.parse_items.proofs.given.GivenParts.nothing.Goals as goal
-
-pub returns : goal.returns
-returns c = λ T. record { trees = c.new.ensures T; spread = c.new-2.ensures.items; value = c.none.ensures T; block = c.none-2.ensures T }

@@ -1,3 +1,0 @@
-pub mod Items
-pub mod OneTurn
-pub mod Turns

@@ -1,6 +1,0 @@
-use Rattle.parse_knot.specs.Knot.{reader_of}
-use Rattle.parse_knot.proofs.below.BelowNested.elses.Goals as goal
-
-pub returns : goal.returns
-unfolding reader_of
-returns g c = record { reads = λ w s a. c.other.ensures _ _ _ (c.requires.1 _ _ _ _ _ _ c.read.ensures w s a) }

@@ -1,0 +1,11 @@
+pub mod Answers
+pub mod Fronts
+pub mod ReadBodies
+pub mod ReadItems
+pub mod ReadLevels
+pub mod ReadOperands
+pub mod ReadStatements
+pub mod Stops
+pub mod Scanned
+pub mod HasFault
+pub mod ReadingOf

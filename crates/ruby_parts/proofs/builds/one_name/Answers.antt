@@ -1,7 +1,0 @@
-use Rattle.std.proofs.Common.{List, ◌∷◌, ◌++◌, [], ap, ◌∙◌}
-use Rattle.ruby_tree.specs.declared.names.Name.{Name}
-use Rattle.ruby_parts.proofs.builds.one_name.Goals as goal
-use Rattle.ruby_parts.proofs.Built.{one_name_is}
-
-pub returns : goal.returns
-returns c T x n = one_name_is T _ _ x (c.in_ok-push.ensures.items ∙ ap (λ (ns : List Name). ns ++ c.args.name ∷ []) c.new-names.ensures.items) n

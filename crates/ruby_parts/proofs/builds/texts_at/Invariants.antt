@@ -1,9 +1,0 @@
-use Rattle.std.proofs.Common.{take}
-use Rattle.ruby_tree.specs.Names.{Texts}
-use Rattle.ruby_tree.specs.Build.{texts_at}
-use Rattle.ruby_tree.specs.Spots.{spot_of}
-use Rattle.ruby_parts.specs.Subtrees.{HoldsAll}
-use Rattle.ruby_parts.proofs.builds.texts_at.Given as goal
-
-abbrev pub invariant-loop-bytes : goal.invariant-loop-bytes
-invariant-loop-bytes l = (T : Texts) → HoldsAll T l.parts (texts_at (spot_of l.here) (take l.bytes-index l.texts))

@@ -1,5 +1,0 @@
-use Rattle.ruby_parts.proofs.calls.bare_raise.Goals as goal
-use Rattle.ruby_parts.proofs.CallKinds.{bare_raise_kind}
-
-pub returns : goal.returns
-returns c = record { made = λ T. c.grown.ensures T _ (bare_raise_kind T) }

@@ -1,6 +1,0 @@
-use Rattle.std.proofs.Common.{arith}
-use Rattle.ruby_parts.proofs.calls.send.Goals as goal
-use Rattle.ruby_parts.proofs.CallKinds.{send_kind}
-
-pub returns : goal.returns
-returns c = record { made = λ T a ts v m b h_receiver h_arguments h_value h_name h_block. c.grown.ensures T _ (send_kind T _ _ _ _ _ _ _ _ _ _ _ _ _ h_receiver h_arguments h_value h_name h_block (omega arith)) }

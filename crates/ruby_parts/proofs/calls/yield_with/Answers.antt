@@ -1,6 +1,0 @@
-use Rattle.std.proofs.Common.{refl}
-use Rattle.ruby_parts.proofs.calls.yield_with.Goals as goal
-use Rattle.ruby_parts.proofs.CallKinds.{yield_with_kind}
-
-pub returns : goal.returns
-returns c = record { made = λ T ts h_arguments. c.grown.ensures T _ (yield_with_kind T _ _ _ _ h_arguments refl) }

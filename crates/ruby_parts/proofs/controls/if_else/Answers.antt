@@ -1,6 +1,0 @@
-use Rattle.std.proofs.Common.{arith}
-use Rattle.ruby_parts.proofs.controls.if_else.Goals as goal
-use Rattle.ruby_parts.proofs.ControlKinds.{if_else_kind}
-
-pub returns : goal.returns
-returns c = record { made = λ T k a b h_condition h_chosen h_other. c.grown.ensures T _ (if_else_kind T _ _ _ _ _ _ _ _ _ (c.in_ok-condition.ensures T k h_condition) (c.in_ok-chosen.ensures T a h_chosen) h_other (omega arith)) }

@@ -1,5 +1,0 @@
-use Rattle.ruby_parts.proofs.controls.retry.Goals as goal
-use Rattle.ruby_parts.proofs.ControlKinds.{retry_kind}
-
-pub returns : goal.returns
-returns c = record { made = λ T. c.grown.ensures T _ (retry_kind T) }

@@ -1,6 +1,0 @@
-use Rattle.std.proofs.Common.{refl}
-use Rattle.ruby_parts.proofs.controls.statements.Goals as goal
-use Rattle.ruby_parts.proofs.ControlKinds.{statements_kind}
-
-pub returns : goal.returns
-returns c = record { made = λ T ts h_parts. c.grown.ensures T _ (statements_kind T _ _ _ h_parts refl) }

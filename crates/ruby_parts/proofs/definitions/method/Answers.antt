@@ -1,6 +1,0 @@
-use Rattle.std.proofs.Common.{refl}
-use Rattle.ruby_parts.proofs.definitions.method.Goals as goal
-use Rattle.ruby_parts.proofs.DefinitionKinds.{method_kind}
-
-pub returns : goal.returns
-returns c = record { made = λ T m a h_name h_code. c.grown.ensures T _ (method_kind T _ _ _ _ _ _ _ h_name (c.in_ok-code.ensures T a h_code) refl) }

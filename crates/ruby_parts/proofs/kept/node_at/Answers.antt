@@ -1,5 +1,0 @@
-use Rattle.ruby_parts.proofs.kept.node_at.Goals as goal
-use Rattle.ruby_parts.proofs.Fitted.{made_node_is}
-
-pub returns : goal.returns
-returns c U f is = made_node_is U _ _ _ _ f is

@@ -1,5 +1,0 @@
-use Rattle.ruby_parts.proofs.lists.OtherSubtree.into_part.Goals as goal
-use Rattle.ruby_parts.proofs.Parts.{part_holds}
-
-pub returns-in-Some : goal.returns-in-Some
-returns-in-Some c T o h = part_holds T _ _ _ o c.in-Some.is c.into_inner.ensures h

@@ -1,6 +1,0 @@
-use Rattle.std.proofs.Common.{refl}
-use Rattle.ruby_parts.proofs.lists.ParamSubtrees.push_block.Goals as goal
-use Rattle.ruby_parts.proofs.Pushed.{block_pushed}
-
-pub returns : goal.returns
-returns c T ps f h n = block_pushed T _ _ _ ps f c.in_ok-push.ensures.items refl h n

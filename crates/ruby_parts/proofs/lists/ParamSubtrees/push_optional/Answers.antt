@@ -1,5 +1,0 @@
-use Rattle.ruby_parts.proofs.lists.ParamSubtrees.push_optional.Goals as goal
-use Rattle.ruby_parts.proofs.Pushed.{optional_pushed}
-
-pub returns : goal.returns
-returns c T ps f t h n p = optional_pushed T _ _ _ _ ps f t c.in_ok-push.ensures.items c.deeper-self.ensures h n p

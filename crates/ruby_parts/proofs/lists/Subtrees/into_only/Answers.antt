@@ -1,8 +1,0 @@
-use Rattle.std.proofs.Common.{◌≡◌, length, rules}
-use Rattle.ruby_parts.proofs.lists.Subtrees.into_only.Goals as goal
-use Rattle.ruby_parts.proofs.Parts.{only_holds}
-
-pub returns-clause-only : goal.returns-clause-only
-returns-clause-only c T ts h =
-    let count : length c.args.self.nodes.items ≡ 1 = search rules in
-    only_holds T _ _ _ ts c.in-Some.ensures.items count h

@@ -1,5 +1,0 @@
-use Rattle.ruby_parts.proofs.lists.Subtrees.push.Goals as goal
-use Rattle.ruby_parts.proofs.Pushed.{tree_pushed}
-
-pub returns : goal.returns
-returns c T ts t h p = tree_pushed T _ _ _ ts t c.in_ok-push.ensures.items c.deeper-self.ensures h p

@@ -1,5 +1,0 @@
-use Rattle.ruby_parts.proofs.values.instance.Goals as goal
-use Rattle.ruby_parts.proofs.ValueKinds.{instance_kind}
-
-pub returns : goal.returns
-returns c = record { made = λ T x h_name. c.grown.ensures T _ (instance_kind T _ _ h_name) }

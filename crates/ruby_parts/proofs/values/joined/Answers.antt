@@ -1,6 +1,0 @@
-use Rattle.std.proofs.Common.{refl}
-use Rattle.ruby_parts.proofs.values.joined.Goals as goal
-use Rattle.ruby_parts.proofs.ValueKinds.{joined_kind}
-
-pub returns : goal.returns
-returns c = record { made = λ T ps h_pieces. c.grown.ensures T _ (joined_kind T _ _ _ h_pieces refl) }

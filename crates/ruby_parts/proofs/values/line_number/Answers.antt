@@ -1,5 +1,0 @@
-use Rattle.ruby_parts.proofs.values.line_number.Goals as goal
-use Rattle.ruby_parts.proofs.ValueKinds.{line_number_kind}
-
-pub returns : goal.returns
-returns c = record { made = λ T. c.grown.ensures T _ (line_number_kind T) }

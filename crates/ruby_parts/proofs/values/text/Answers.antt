@@ -1,5 +1,0 @@
-use Rattle.ruby_parts.proofs.values.text.Goals as goal
-use Rattle.ruby_parts.proofs.ValueKinds.{text_kind}
-
-pub returns : goal.returns
-returns c = record { made = λ T. c.grown.ensures T _ (text_kind T _) }

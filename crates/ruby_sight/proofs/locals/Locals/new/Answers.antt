@@ -1,5 +1,0 @@
-use Rattle.ruby_sight.proofs.LocalIndex.{nothing}
-use Rattle.ruby_sight.proofs.locals.Locals.new.Goals as goal
-
-pub invariant_of-result : goal.invariant_of-result
-invariant_of-result c = rw (c.new.ensures.empty, c.new-2.ensures.items, c.new-3.ensures.items) nothing

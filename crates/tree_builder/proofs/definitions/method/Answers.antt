@@ -1,0 +1,6 @@
+use Rattle.std.proofs.Common.{refl}
+use Rattle.tree_builder.proofs.definitions.method.Goals as goal
+use Rattle.tree_builder.proofs.DefinitionKinds.{method_kind}
+
+pub returns : goal.returns
+returns c = record { made = λ T m a h_name h_code. c.grown.ensures T _ (method_kind T _ _ _ _ _ _ _ h_name (c.in_ok-code.ensures T a h_code) refl) }
