@@ -6,13 +6,13 @@ use Rattle.ruby_lexer.specs.Views.{Reads}
 use Rattle.ruby_lexer.specs.Words.{with_rest}
 use Rattle.ruby_lexer.specs.Settle.{symbol_with, symbol_of}
 use Rattle.ruby_lexer.specs.declared.class.Class.{Class}
-use Rattle.ruby_lexer.specs.declared.class.Class.TheVariants.{DoubleQuote, Colon}
+use Rattle.ruby_lexer.specs.declared.class.Class.TheVariants.{DoubleQuote, Colon, Single, Semicolon, LineEnd, Space}
 use Rattle.ruby_lexer.specs.declared.state.State.{State}
 use Rattle.ruby_lexer.specs.Bytes.{Bytes, begins_with}
 use Rattle.ruby_lexer.specs.Classes.{class_of}
-use Rattle.ruby_lexer.specs.Pieces.{Kind, Parts, Piece, seen_parts}
+use Rattle.ruby_lexer.specs.Pieces.{Kind, mark, newline, Parts, Piece, blank, line_end, token, seen_parts}
 use Rattle.ruby_lexer.specs.Forms.{text_of}
-use Rattle.ruby_lexer.specs.Scan.{Coder, no_coder, ◌>>=◌, coder, first_of, or_else, scan_inside, quoted_end, scan_quoted, symbol_end, scan_symbol, scan_special, scan_form, scan_piece}
+use Rattle.ruby_lexer.specs.Scan.{Coder, no_coder, ◌>>=◌, coder, first_of, first_byte, or_else, scan_inside, quoted_end, scan_quoted, symbol_end, scan_symbol, scan_special, scan_form, scan_piece}
 use Rattle.ruby_lexer.proofs.Lists.{false_true}
 use Rattle.ruby_lexer.proofs.Order.{Found}
 
@@ -84,3 +84,20 @@ end_is r (Some f) = refl
 pub symbol_is : (text w : Bytes) (x : Option (List Part)) (r : Bytes) (k : Option Kind) → begins_with 34 w ≡ true → Reads seen_parts x r (scan_inside (coder text 0) (suc (length (drop 1 w))) (drop 1 w)) → k ≡ symbol_of (option_map seen_parts x) → scan_symbol w ≡ with_rest r k
 symbol_is text w None r k h e is = rw is (symbol_none text w h e)
 symbol_is text w (Some ps) r k h e is = rw is (symbol_found text w (seen_parts ps) r h e ∙ end_is r (text_of (seen_parts ps)))
+
+-- the classes whose bytes are pieces by themselves
+pub single_first : (text : Bytes) (s : State) (w : Bytes) → first_of text s Single w ≡ first_byte (token mark) w
+single_first text s [] = refl
+single_first text s (b ∷ w) = refl
+
+pub semicolon_first : (text : Bytes) (s : State) (w : Bytes) → first_of text s Semicolon w ≡ first_byte (token newline) w
+semicolon_first text s [] = refl
+semicolon_first text s (b ∷ w) = refl
+
+pub line_first : (text : Bytes) (s : State) (w : Bytes) → first_of text s LineEnd w ≡ first_byte line_end w
+line_first text s [] = refl
+line_first text s (b ∷ w) = refl
+
+pub space_first : (text : Bytes) (s : State) (w : Bytes) → first_of text s Space w ≡ first_byte blank w
+space_first text s [] = refl
+space_first text s (b ∷ w) = refl

@@ -64,6 +64,11 @@ abbrev pub first_of : Bytes → State → Class → Bytes → Option (Piece × B
 first_of text s c [] = None
 first_of text s c (b ∷ w) = first_some (forms text s c b w)
 
+-- a form that is its first byte alone
+abbrev pub first_byte : Piece → Bytes → Option (Piece × Bytes)
+first_byte k [] = None
+first_byte k (b ∷ w) = Some (k, w)
+
 unfoldable pub scan_form : Bytes → Coder → State → Class → ℕ → Bytes → Option (Piece × Bytes)
 scan_form text Q s c b w = or_else (scan_special Q c w) (first_some (forms text s c b w))
 

@@ -207,23 +207,11 @@ fn is_point(text: &[u8], token: &Token) -> bool
         && token.to == token.from.saturating_add(1)
 }
 
-fn with_blank(token: Token, blank: bool) -> Token
+fn with_blank(mut token: Token, blank: bool) -> Token
     ensures { seen result ≡ tok_with_blank blank (seen token) }
 {
-    let Token {
-        kind,
-        from,
-        to,
-        line,
-        blank: before,
-    } = token;
-    Token {
-        kind,
-        from,
-        to,
-        line,
-        blank: blank || before,
-    }
+    token.blank = blank || token.blank;
+    token
 }
 
 /// Whether a newline is none.

@@ -85,17 +85,6 @@ impl Cursor<'_> {
         None
     }
 
-    /// A piece that is always the first byte.
-    fn single_byte(&mut self, piece: Piece) -> Option<Piece>
-        requires { 0 < length self.old.rest.now }
-        ensures value { result ≡ Some piece }
-        ensures rest { self.new.rest.now ≡ drop 1 self.old.rest.now }
-        ensures text { self.new.text.now ≡ self.old.text.now }
-    {
-        self.bump(1);
-        Some(piece)
-    }
-
     /// `%`, an operator with it, or a list of words.
     pub fn percent_piece(&mut self) -> Result<Option<Piece>, AllocError>
         ensures value { (s : ReadState) → Gives seen_piece result self.new.rest.now (first_of self.old.text.now s Class.Percent self.old.rest.now) }
