@@ -6,7 +6,6 @@ use crate::Name;
 use bs_outside::Bytes;
 
 /// A node of the tree, with the lines that its code has.
-#[derive(Drop)]
 pub struct Node {
     /// The line of its first token, counted from 1; 0 where it stands for no token.
     pub first: u64,
@@ -17,6 +16,18 @@ pub struct Node {
     pub place: u64,
     /// What it is.
     pub kind: Kind<Node>,
+}
+
+// By hand, so that the crates above need no proof of the drop of each kind.
+impl Drop for Node {
+    fn drop(self) {
+        let Node {
+            first: _,
+            line: _,
+            place: _,
+            kind: _,
+        } = self;
+    }
 }
 
 /// What a node is, in groups. `N` is the type of the nodes in it.
