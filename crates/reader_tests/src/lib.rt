@@ -1,21 +1,15 @@
-//! Tests.
+//! Tests of the layers below the parser, of what their contracts do not say.
 #![tactic(auto)]
 
 #[cfg(test)]
-mod parse_state;
+mod local_names;
 #[cfg(test)]
-mod ruby_lexer;
+mod long_texts;
 #[cfg(test)]
-mod ruby_reader;
+mod lookahead_rows;
 #[cfg(test)]
-mod ruby_reader_limits;
+mod shown_tokens;
 #[cfg(test)]
-mod ruby_tree;
+mod symbol_names;
 #[cfg(test)]
-mod ruby_tree_placement;
-#[cfg(test)]
-mod token_lookahead_locals;
-#[cfg(test)]
-mod token_lookahead_lookahead;
-#[cfg(test)]
-mod tree_builder;
+mod token_rows;

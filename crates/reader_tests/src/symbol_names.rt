@@ -1,5 +1,5 @@
-//! Names.
-use super::*;
+//! Names by their numbers.
+use ruby_tree::SymbolTable;
 use std::test::Fail;
 
 #[test]

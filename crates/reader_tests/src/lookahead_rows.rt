@@ -1,24 +1,9 @@
-//! What a parser sees of real texts.
-use bs_outside::{Bytes, Items};
-use ruby_lexer::{Part, Token, tokens};
-use ruby_tree::SourcePosition;
+//! Which tests of a lookahead hold in real texts.
+use ruby_lexer::tokens;
 use std::alloc::{AllocError, Global};
 use std::process::Abort;
 use std::test::Fail;
-use token_lookahead::{DoBlockOwner, Lookahead, Settable, plain_text};
-
-fn cut(alloc: Global, text: &[u8]) -> Result<Items<Token>, Fail> {
-    let all = tokens(alloc, text).ok().ok_or("the text has a fault")?;
-    Ok(all)
-}
-
-/// The lookahead of all tokens.
-fn whole<'a>(text: &'a [u8], all: &'a Items<Token>) -> Lookahead<'a> {
-    Lookahead {
-        source: text,
-        rest: all.as_slice(),
-    }
-}
+use token_lookahead::Lookahead;
 
 fn kinds(lookahead: Lookahead<'_>) -> [(&'static str, bool); 12] {
     [
@@ -91,8 +76,10 @@ fn show(out: &mut Vec<u8>, tests: &[(&'static str, bool)]) -> Result<(), AllocEr
 /// Compares the tests that hold of the second token.
 fn compare(rt: &impl Abort, alloc: Global, rows: &[(&str, &str)]) -> Result<(), Fail> {
     for (text, wanted) in rows {
-        let all = cut(alloc, text.as_bytes())?;
-        let lookahead = whole(text.as_bytes(), &all).next();
+        let source = text.as_bytes();
+        let all = tokens(alloc, source).ok().ok_or("the text has a fault")?;
+        let rest = all.as_slice();
+        let lookahead = Lookahead { source, rest }.next();
         let mut out = Vec::new(alloc);
         show(&mut out, &kinds(lookahead))?;
         show(&mut out, &lists(lookahead))?;
@@ -214,138 +201,4 @@ fn what_begins(rt: HostRuntime) -> Result<(), Fail> {
     compare(&rt, rt.alloc(), &BEGINNINGS)?;
     compare(&rt, rt.alloc(), &OPERANDS)?;
     compare(&rt, rt.alloc(), &OPERATORS)
-}
-
-#[test]
-fn marks_and_words(rt: HostRuntime) -> Result<(), Fail> {
-    let text = b"if x == 1".as_slice();
-    let all = cut(rt.alloc(), text)?;
-    let word = whole(text, &all);
-    assert!(rt; word.is_word("if"));
-    assert!(rt; !word.is_word("i"));
-    assert!(rt; !word.is_mark("if"));
-    assert!(rt; word.front().is_some());
-    assert_eq!(rt; word.word(), b"if".as_slice());
-    let mark = word.next().next();
-    assert!(rt; mark.is_mark("=="));
-    assert!(rt; !mark.is_mark("="));
-    assert!(rt; !mark.is_word("=="));
-    assert_eq!(rt; mark.word(), b"==".as_slice());
-    let end = mark.next().next();
-    assert!(rt; end.is_empty());
-    assert_eq!(rt; end.word(), b"".as_slice());
-    assert!(rt; end.next().is_empty());
-    Ok(())
-}
-
-#[test]
-fn places(rt: HostRuntime) -> Result<(), Fail> {
-    let text = b"a(b\n )".as_slice();
-    let all = cut(rt.alloc(), text)?;
-    let name = whole(text, &all);
-    let bracket = name.next();
-    let end = bracket.next().next();
-    assert!(rt; name.touches_next());
-    assert!(rt; !bracket.next().touches_next());
-    assert_eq!(rt; end.line_at(), 2);
-    assert_eq!(rt; end.place_at(), 5);
-    let alone = SourcePosition {
-        first: 2,
-        line: 2,
-        place: 5,
-    };
-    assert_eq!(rt; end.position(), alone);
-    let both = SourcePosition {
-        first: 1,
-        line: 2,
-        place: 0,
-    };
-    assert_eq!(rt; name.position_with(end), both);
-    assert_eq!(rt; end.next().place_at(), 0);
-    assert_eq!(rt; end.next().line_at(), 0);
-    Ok(())
-}
-
-#[test]
-fn blocks(rt: HostRuntime) -> Result<(), Fail> {
-    let text = b"x {} do".as_slice();
-    let all = cut(rt.alloc(), text)?;
-    let brace = whole(text, &all).next();
-    let word = brace.next().next();
-    let own = DoBlockOwner::Own;
-    let commands = own.in_arguments();
-    assert_eq!(rt; commands, DoBlockOwner::Commands);
-    assert_eq!(rt; commands.within(), DoBlockOwner::Own);
-    assert_eq!(rt; DoBlockOwner::Loops.within(), DoBlockOwner::Loops);
-    assert_eq!(rt; DoBlockOwner::Loops.in_arguments(), DoBlockOwner::Loops);
-    assert!(rt; brace.opens_block(DoBlockOwner::Loops));
-    assert!(rt; !brace.opens_do(own));
-    assert!(rt; word.opens_block(own));
-    assert!(rt; !word.opens_block(commands));
-    assert!(rt; word.opens_do(commands));
-    assert!(rt; !word.opens_do(DoBlockOwner::Loops));
-    Ok(())
-}
-
-#[test]
-fn variables_to_set(rt: HostRuntime) -> Result<(), Fail> {
-    let text = b"x @y $z W".as_slice();
-    let all = cut(rt.alloc(), text)?;
-    let lookahead = whole(text, &all);
-    assert_eq!(rt; lookahead.goal(), Some(Settable::Local));
-    assert_eq!(rt; lookahead.next().goal(), Some(Settable::Instance));
-    assert_eq!(rt; lookahead.next().next().goal(), Some(Settable::Global));
-    assert_eq!(rt; lookahead.next().next().next().goal(), None);
-    Ok(())
-}
-
-/// The words, each with a blank behind it.
-fn joined(alloc: Global, words: Option<&[Bytes]>) -> Result<Vec<u8>, Fail> {
-    let mut out = Vec::new(alloc);
-    for word in words.ok_or("no list")? {
-        out.extend_from_slice(word.as_slice())?;
-        out.push(b' ')?;
-    }
-    Ok(out)
-}
-
-/// Compares the text of some parts.
-fn compare_text(
-    rt: &impl Abort,
-    alloc: Global,
-    parts: Option<&[Part]>,
-    wanted: &[u8],
-) -> Result<(), Fail> {
-    let text = plain_text(alloc, parts.ok_or("no parts")?)?.ok_or("code")?;
-    assert_eq!(rt; text.as_slice(), wanted);
-    Ok(())
-}
-
-#[test]
-fn contents(rt: HostRuntime) -> Result<(), Fail> {
-    let alloc = rt.alloc();
-    let text = b"12 :s %w[p q] %i[r] k: 'a b' \"c#{d}\"".as_slice();
-    let all = cut(alloc, text)?;
-    let number = whole(text, &all);
-    assert_eq!(rt; number.integer(), Some(12));
-    assert!(rt; number.symbol().is_none());
-    let symbol = number.next();
-    assert!(rt; symbol.integer().is_none());
-    assert_eq!(rt; symbol.symbol().ok_or("no symbol")?, b"s".as_slice());
-    let list = symbol.next();
-    assert_eq!(rt; joined(alloc, list.words())?.as_slice(), b"p q ".as_slice());
-    assert!(rt; list.symbols().is_none());
-    let names = list.next();
-    assert_eq!(rt;
-        joined(alloc, names.symbols())?.as_slice(),
-        b"r ".as_slice()
-    );
-    let label = names.next();
-    compare_text(&rt, alloc, label.label(), b"k")?;
-    assert!(rt; label.literal().is_none());
-    let plain = label.next();
-    compare_text(&rt, alloc, plain.literal(), b"a b")?;
-    let code = plain.next().literal().ok_or("no literal")?;
-    assert!(rt; plain_text(alloc, code)?.is_none());
-    Ok(())
 }
