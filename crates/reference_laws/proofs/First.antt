@@ -97,7 +97,7 @@ module _ (source : Bytes) where
     first_disjunction d = first_chain _ _ _ (first_chain _ _ _ (first_equality d))
 
     pub first_range : (d : DoBlockOwner) → FirstOfArgument source (Range source R d)
-    first_range d w s t r z (g.Range.assigned_value h e b) = first_disjunction d _ _ _ _ _ h
+    first_range d w s t r z (g.Range.whole h e b) = first_disjunction d _ _ _ _ _ h
     first_range d w s t r z (g.Range.without_last h e b) = first_disjunction d _ _ _ _ _ h
     first_range d w s t r z (g.Range.plain h a b) = first_disjunction d _ _ _ _ _ h
 

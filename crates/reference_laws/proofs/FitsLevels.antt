@@ -96,7 +96,7 @@ module _ (source : Bytes) (k : ℕ) (R T : Rels) (F : Fit k R T) (d : DoBlockOwn
   fits-disjunction = fits-chain source k R T _ _ deeper-disjunction _ _ fits-conjunction
 
   fits-range : Fitting k (g.Range source R d) (g.Range source T d)
-  fits-range w s _ r z (g.Range.assigned_value h e i) le = g.Range.assigned_value (fits-disjunction _ _ _ _ _ h (omega arith)) e (fits-disjunction _ _ _ _ _ i (omega arith))
+  fits-range w s _ r z (g.Range.whole h e i) le = g.Range.whole (fits-disjunction _ _ _ _ _ h (omega arith)) e (fits-disjunction _ _ _ _ _ i (omega arith))
   fits-range w s _ r z (g.Range.without_last h e i) le = g.Range.without_last (fits-disjunction _ _ _ _ _ h (omega arith)) e (fits-disjunction _ _ _ _ _ i (omega arith))
   fits-range w s _ r z (g.Range.plain h e f) le = g.Range.plain (fits-disjunction _ _ _ _ _ h le) e f
 

@@ -147,7 +147,7 @@ module _ (source : Bytes) (R : Rels) (Q : Readers) (F : Firsts source R) (S : Sh
 
   known_range : (d : DoBlockOwner) → Knows (Range source R d) (read_level source Q up_to_ranges d)
   unfolding ◌>>=◌ at_level ranged
-  known_range d w s t r z (g.Range.assigned_value h e i) = level_more source Q ranges up_to_disjunctions d w s ∙ rw (known_disjunction d _ _ _ _ _ h, e, known_disjunction d _ _ _ _ _ i)
+  known_range d w s t r z (g.Range.whole h e i) = level_more source Q ranges up_to_disjunctions d w s ∙ rw (known_disjunction d _ _ _ _ _ h, e, known_disjunction d _ _ _ _ _ i)
   known_range d w s t r z (g.Range.without_last {q = q} h e i) =
       level_more source Q ranges up_to_disjunctions d w s ∙ rw (known_disjunction d _ _ _ _ _ h, other_mark source (codes "...") (codes "..") q e refl, e, known_disjunction d _ _ _ _ _ i)
   known_range d w s t r z (g.Range.plain h e i) = level_more source Q ranges up_to_disjunctions d w s ∙ rw (known_disjunction d _ _ _ _ _ h, e, i)

@@ -69,7 +69,7 @@ module _ (source : Bytes) (R : Rels) (L : Lasts R) where
   last_disjunction d w s t r z h e = last_chain (is_mark source (codes "||")) disjunction (Conjunction source R d) (λ w h e. past_mark source (codes "||") w h e) (last_conjunction d) _ _ _ _ _ h e
 
   last_range : (d : DoBlockOwner) → Lasting (Range source R d)
-  last_range d w s t r z (g.Range.assigned_value h i j) e = e ▹ last_disjunction d _ _ _ _ _ h ▸ past_mark source (codes "..") _ i ▸ last_disjunction d _ _ _ _ _ j
+  last_range d w s t r z (g.Range.whole h i j) e = e ▹ last_disjunction d _ _ _ _ _ h ▸ past_mark source (codes "..") _ i ▸ last_disjunction d _ _ _ _ _ j
   last_range d w s t r z (g.Range.without_last h i j) e = e ▹ last_disjunction d _ _ _ _ _ h ▸ past_mark source (codes "...") _ i ▸ last_disjunction d _ _ _ _ _ j
   last_range d w s t r z (g.Range.plain h i j) e = last_disjunction d _ _ _ _ _ h e
 

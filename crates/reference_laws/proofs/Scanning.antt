@@ -13,7 +13,7 @@ use Rattle.ruby_lexer.specs.Cut.{at_start}
 use Rattle.ruby_lexer.specs.Scan.{coder, scan_all}
 use Rattle.ruby_lexer.specs.Reading.{AllRead}
 use Rattle.ruby_lexer.specs.Tokens.{before_end, IsText, AreTokens, FaultLine, long, no_utf8, IsFront}
-use Rattle.ruby_lexer.proofs.Once.{same_front, tokens_of_front, one_line, read_front}
+use Rattle.ruby_lexer.proofs.Once.{same_front, tokens_of_front, one_line, read_token_prefix}
 use Rattle.reference_parser.proofs.Tests.{by_test}
 use Rattle.reference_laws.proofs.SoundTools.{value_if}
 use Rattle.reference_parser.specs.Scanned.{Scanned, front, no_text, stop_at, front_of_text, scanned_of}
@@ -71,7 +71,7 @@ front_scans bytes t =
     let text = before_end bytes in
     let all = scan_all text (coder text 200) (suc (length text)) at_start text in
     let read : AllRead text all.0 (stop_at text all.1) = record { rest = all.1; is = refl; ends_at = stop_is text all.1 } in
-    read_front bytes all.0 (stop_at text all.1) t read
+    read_token_prefix bytes all.0 (stop_at text all.1) t read
 
 long_line : (bytes : Bytes) → nat_le (length bytes) 4194304 ≡ false → Scans bytes (no_text 1)
 long_line bytes e = let more : 4194304 < length bytes = grind (arith, nat_tests) in (λ t. omega (arith, t.short), long more)

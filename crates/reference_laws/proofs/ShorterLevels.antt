@@ -66,7 +66,7 @@ module _ (source : Bytes) (b : Bool) (R : Rels) (M : Movers b R) where
   moves_disjunction d w s t r z h = moves_chain (is_mark source (codes "||")) disjunction (Conjunction source R d) (λ s w e. at_mark source (codes "||") w e) (moves_conjunction d) _ _ _ _ _ h
 
   pub moves_range : (d : DoBlockOwner) → Moving b 1 (Range source R d)
-  moves_range d w s t r z (g.Range.assigned_value h e i) = least (moves_disjunction d _ _ _ _ _ h ▷ at_mark source (codes "..") _ e ▷ moves_disjunction d _ _ _ _ _ i) (omega arith)
+  moves_range d w s t r z (g.Range.whole h e i) = least (moves_disjunction d _ _ _ _ _ h ▷ at_mark source (codes "..") _ e ▷ moves_disjunction d _ _ _ _ _ i) (omega arith)
   moves_range d w s t r z (g.Range.without_last h e i) = least (moves_disjunction d _ _ _ _ _ h ▷ at_mark source (codes "...") _ e ▷ moves_disjunction d _ _ _ _ _ i) (omega arith)
   moves_range d w s t r z (g.Range.plain h e i) = moves_disjunction d _ _ _ _ _ h
 

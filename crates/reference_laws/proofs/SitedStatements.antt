@@ -75,7 +75,7 @@ module _ (L : ℕ → ℕ) (source : Bytes) (R : Rels) (S : Sitting L R) where
   sit_disjunction d = sit_chain (is_mark source (codes "||")) disjunction (Conjunction source R d) (λ o w a b A B. good_either L A B) (sit_conjunction d)
 
   sit_range : (d : DoBlockOwner) → Operands L (Range source R d)
-  sit_range d w s t r z (g.Range.assigned_value h i j) e =
+  sit_range d w s t r z (g.Range.whole h i j) e =
       let a = sit_disjunction d _ _ _ _ _ h e in let b = sit_disjunction d _ _ _ _ _ j (past L a.rest) in got L (good_range L a.part b.part) b.rest
   sit_range d w s t r z (g.Range.without_last h i j) e =
       let a = sit_disjunction d _ _ _ _ _ h e in let b = sit_disjunction d _ _ _ _ _ j (past L a.rest) in got L (good_range L a.part b.part) b.rest

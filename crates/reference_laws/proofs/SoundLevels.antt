@@ -45,7 +45,7 @@ module _ (source : Bytes) (R : Rels) where
   unfolding ranged
   sound-ranged d F H o s a q y h =
       each_if (is_mark source (codes "..") q) _ _
-      (λ e. each_then _ (H (next q) y) (λ b r z i. got (g.Range.assigned_value h e i)))
+      (λ e. each_then _ (H (next q) y) (λ b r z i. got (g.Range.whole h e i)))
       (λ e. each_if (is_mark source (codes "...") q) _ _
       (λ f. each_then _ (H (next q) y) (λ b r z i. got (g.Range.without_last h f i)))
       (λ f. got (g.Range.plain h e f)))

@@ -44,17 +44,17 @@ shorter_part (more t u) v w e = subst (λ (x : Toks). count_of v ≤ count_of x)
 
 module _ (source : Bytes) (n : ℕ) where
   -- a front as a list of statements
-  pub record TokenPrefix (s : Scope) (w v : Toks) (y : Scope) : Type 0 where
+  pub record DerivedLines (s : Scope) (w v : Toks) (y : Scope) : Type 0 where
     pub first : Toks
     pub parts : toks_then first v ≡ w
     pub lines : ends_lines first ≡ true
     pub trees : Trees
     pub derived : StmtList source (derives source n) own first s trees none y
 
-  front_empty : (s : Scope) (w : Toks) → TokenPrefix s w w s
+  front_empty : (s : Scope) (w : Toks) → DerivedLines s w w s
   front_empty s w = record { first = none; parts = refl; lines = refl; trees = _; derived = g.StmtList.empty refl refl }
 
-  front_line : {s y : Scope} (w : Toks) {v : Toks} → is_newline w ≡ true → TokenPrefix s (next w) v y → TokenPrefix s w v y
+  front_line : {s y : Scope} (w : Toks) {v : Toks} → is_newline w ≡ true → DerivedLines s (next w) v y → DerivedLines s w v y
   front_line none e F = absurd (false≢true e)
   front_line (more (tok k from to line b) ws) e F = record {
     first = more (tok k from to line b) F.first;
@@ -64,7 +64,7 @@ module _ (source : Bytes) (n : ℕ) where
     derived = g.StmtList.line e F.derived;
   }
 
-  front_statement : {s y z : Scope} {w v : Toks} {t : Tree} (q : Toks) → Stmt source (derives source n) own w s t q y → is_newline q ≡ true → TokenPrefix y (next q) v z → TokenPrefix s w v z
+  front_statement : {s y z : Scope} {w v : Toks} {t : Tree} (q : Toks) → Stmt source (derives source n) own w s t q y → is_newline q ≡ true → DerivedLines y (next q) v z → DerivedLines s w v z
   front_statement none h e F = absurd (false≢true e)
   front_statement {s = s} {y = y} {z = z} {w = w} {v = v} {t = t} (more (tok newline from to line b) qs) h e F =
       let S = swap_stmt qs F.first source (derives source n) (swaps qs F.first source n) (movers false source n) h (at_line {from = from} {to = to} {line = line} {b = b}) in
@@ -77,19 +77,19 @@ module _ (source : Bytes) (n : ℕ) where
       }
   front_statement (more (tok _ from to line b) qs) h e F = absurd (false≢true e)
 
-  front_after : (further : Toks → Scope → Place) → ((q : Toks) (y : Scope) → TokenPrefix y q (further q y).rest (further q y).scope) → (w : Toks) (s : Scope) (o : Answer Tree) → Each (Stmt source (derives source n) own w s) o →
-      TokenPrefix s w (front_behind source (readers source n) further w s o).rest (front_behind source (readers source n) further w s o).scope
+  front_after : (further : Toks → Scope → Place) → ((q : Toks) (y : Scope) → DerivedLines y q (further q y).rest (further q y).scope) → (w : Toks) (s : Scope) (o : Answer Tree) → Each (Stmt source (derives source n) own w s) o →
+      DerivedLines s w (front_behind source (readers source n) further w s o).rest (front_behind source (readers source n) further w s o).scope
   unfolding front_behind
-  front_after further behind w s _ (got {r = q} {z = y} h) = value_if (λ (p : Place). TokenPrefix s w p.rest p.scope) (is_newline q) _ _ (λ e. front_statement q h e (behind (next q) y)) (λ e. front_empty s w)
+  front_after further behind w s _ (got {r = q} {z = y} h) = value_if (λ (p : Place). DerivedLines s w p.rest p.scope) (is_newline q) _ _ (λ e. front_statement q h e (behind (next q) y)) (λ e. front_empty s w)
   front_after further behind w s _ at_fault = front_empty s w
   front_after further behind w s _ at_depth = front_empty s w
 
-  pub front_is : (m : ℕ) (w : Toks) (s : Scope) → TokenPrefix s w (front_from source (readers source n) m w s).rest (front_from source (readers source n) m w s).scope
+  pub front_is : (m : ℕ) (w : Toks) (s : Scope) → DerivedLines s w (front_from source (readers source n) m w s).rest (front_from source (readers source n) m w s).scope
   unfolding front_from
   front_is zero w s = front_empty s w
-  front_is (suc m) w s = value_if (λ (p : Place). TokenPrefix s w p.rest p.scope) (is_newline w) _ _
+  front_is (suc m) w s = value_if (λ (p : Place). DerivedLines s w p.rest p.scope) (is_newline w) _ _
       (λ e. front_line w e (front_is m (next w) s))
-      (λ e. value_if (λ (p : Place). TokenPrefix s w p.rest p.scope) (begins_statement source w) _ _
+      (λ e. value_if (λ (p : Place). DerivedLines s w p.rest p.scope) (begins_statement source w) _ _
       (λ b. front_after _ (front_is m) w s _ (sound-stmt source (derives source n) (readers source n) (sound source n) own w s))
       (λ b. front_empty s w))
 
@@ -108,7 +108,7 @@ module _ (source : Bytes) (n : ℕ) where
       (λ l. record { tree = _; derived = g.Stmts.some l (g.StmtList.another h e hs) })
   listed (g.StmtList.empty e i) = record { tree = _; derived = g.Stmts.none e i }
 
-  pub front_of_list : {s y : Scope} {w v : Toks} (F : TokenPrefix s w v y) → IsFrontOf source s w F.first v y
+  pub front_of_list : {s y : Scope} {w v : Toks} (F : DerivedLines s w v y) → IsFrontOf source s w F.first v y
   unfolding derives
   front_of_list F =
       let L = listed F.derived in

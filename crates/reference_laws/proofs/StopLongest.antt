@@ -23,7 +23,7 @@ use Rattle.reference_laws.proofs.StableStatements.{stable_stmt}
 use Rattle.reference_laws.proofs.Extend.{extend_stmt}
 use Rattle.reference_laws.proofs.LastTools.{past_line, ◌▸◌}
 use Rattle.reference_laws.proofs.LastStatements.{lasts, last_stmt}
-use Rattle.reference_laws.proofs.StopFronts.{TokenPrefix, front_is, front_of_list, shorter_part}
+use Rattle.reference_laws.proofs.StopFronts.{DerivedLines, front_is, front_of_list, shorter_part}
 
 -- What is taken at one depth is taken at another, or that one is too small.
 pub agree_taken : {A : Type 0} {n k both again : Answer A} {t : A} {r : Toks} {z : Scope} → Agree n both → Agree k again → both ≡ again → k ≡ taken t r z → (n ≡ deep) ⊎ (n ≡ taken t r z)
@@ -100,7 +100,7 @@ module _ (source : Bytes) (n : ℕ) where
   at_depths zero u v s y t h lines whole = absurd h
   at_depths (suc k) u v s y t h lines whole = passes k v (list_of k h).1 refl lines (suc (count_of (toks_then u v))) (omega arith) whole
 
-  pub walked : (w : Toks) (s : Scope) → TokenPrefix source n s w (front_of source (readers source n) w s).rest (front_of source (readers source n) w s).scope
+  pub walked : (w : Toks) (s : Scope) → DerivedLines source n s w (front_of source (readers source n) w s).rest (front_of source (readers source n) w s).scope
   unfolding front_of
   walked w s = front_is source n (suc (count_of w)) w s
 

@@ -177,9 +177,9 @@ module _ (xs ys : Toks) (source : Bytes) (R : Rels) (S : Swaps xs ys source R) (
       }
 
   pub swap_range : (d : DoBlockOwner) → Swapping xs ys source (Range source R d)
-  swap_range d _ _ _ _ _ (g.Range.assigned_value {w = none} h e i) q a = absurd (takes_none (moves_disjunction source false R M _ _ _ _ _ _ h))
-  swap_range d _ _ _ _ _ (g.Range.assigned_value {w = more (tok _ _ _ _ _) ws} {q = none} h e i) q a = absurd (false≢true e)
-  swap_range d _ _ _ _ _ (g.Range.assigned_value {w = more (tok _ _ _ _ _) ws} {q = more (tok _ _ _ _ _) qs} h e i) q a = let I = swap_disjunction d _ _ _ _ _ i _ a in let H = opened xs ys (swap_disjunction d _ _ _ _ _ h _ (before I.alike)) in swapped xs ys H.alike (g.Range.assigned_value H.holds e I.holds)
+  swap_range d _ _ _ _ _ (g.Range.whole {w = none} h e i) q a = absurd (takes_none (moves_disjunction source false R M _ _ _ _ _ _ h))
+  swap_range d _ _ _ _ _ (g.Range.whole {w = more (tok _ _ _ _ _) ws} {q = none} h e i) q a = absurd (false≢true e)
+  swap_range d _ _ _ _ _ (g.Range.whole {w = more (tok _ _ _ _ _) ws} {q = more (tok _ _ _ _ _) qs} h e i) q a = let I = swap_disjunction d _ _ _ _ _ i _ a in let H = opened xs ys (swap_disjunction d _ _ _ _ _ h _ (before I.alike)) in swapped xs ys H.alike (g.Range.whole H.holds e I.holds)
   swap_range d _ _ _ _ _ (g.Range.without_last {w = none} h e i) q a = absurd (takes_none (moves_disjunction source false R M _ _ _ _ _ _ h))
   swap_range d _ _ _ _ _ (g.Range.without_last {w = more (tok _ _ _ _ _) ws} {q = none} h e i) q a = absurd (false≢true e)
   swap_range d _ _ _ _ _ (g.Range.without_last {w = more (tok _ _ _ _ _) ws} {q = more (tok _ _ _ _ _) qs} h e i) q a = let I = swap_disjunction d _ _ _ _ _ i _ a in let H = opened xs ys (swap_disjunction d _ _ _ _ _ h _ (before I.alike)) in swapped xs ys H.alike (g.Range.without_last H.holds e I.holds)

@@ -3,8 +3,8 @@ use Rattle.std.proofs.Common.{◌≡◌, ℕ, zero, suc, ◌-◌, ◌≤◌, Lis
 use Rattle.ruby_lexer.specs.declared.class.Class.{Class}
 use Rattle.ruby_lexer.specs.declared.class.Class.TheVariants.{Digit, Letter, At, Dollar, SingleQuote, DoubleQuote, Colon, Percent, Equals, Sign, Operator, Single, Semicolon, LineEnd, Space, Return, Backslash, Hash, Other}
 use Rattle.ruby_lexer.specs.declared.state.State.{State}
-use Rattle.ruby_lexer.specs.declared.state.Before.{Before}
-use Rattle.ruby_lexer.specs.declared.state.Before.TheVariants.{Plain, Dot, Def}
+use Rattle.ruby_lexer.specs.declared.state.WordContext.{WordContext}
+use Rattle.ruby_lexer.specs.declared.state.WordContext.TheVariants.{Plain, Dot, Def}
 use Rattle.ruby_lexer.specs.Bytes.{Bytes, is_inline, is_small, is_capital, is_letter, is_word, begins, begins_with, run, same, starts, from_first}
 use Rattle.ruby_lexer.specs.Pieces.{Kind, name, constant, keyword, mark, symbol, words, symbols, ends, Parts, Piece, token, blank}
 use Rattle.ruby_lexer.specs.Words.{name_of, after_name, tail_length, is_forbidden, is_reserved, reserved_kind, word_kind, with_rest, word_at, one_colon, label_at, variable_at, is_special, global_at}
@@ -157,15 +157,15 @@ module _ (L : ℕ → ℕ) where
   kind_fit w r None t h = tt
   kind_fit w r (Some k) t h = (t, h)
 
-  reserved_lined : (before : Before) (f r : Bytes) → LinedOption (reserved_kind before f r)
+  reserved_lined : (before : WordContext) (f r : Bytes) → LinedOption (reserved_kind before f r)
   reserved_lined Plain f r = kind_if (is_forbidden f) None (Some keyword) tt tt
   reserved_lined Dot f r = tt
   reserved_lined Def f r = kind_if (same f (codes "self") && begins_with 46 r) (Some keyword) (Some name) tt tt
 
-  word_lined : (before : Before) (f r : Bytes) → LinedOption (word_kind before f r)
+  word_lined : (before : WordContext) (f r : Bytes) → LinedOption (word_kind before f r)
   word_lined before f r = kind_if (is_reserved f) (reserved_kind before f r) _ (reserved_lined before f r) (kind_if (begins is_capital f) (Some constant) (Some name) tt tt)
 
-  word_fit : (before : Before) (w : Bytes) → Fit w (word_at before w)
+  word_fit : (before : WordContext) (w : Bytes) → Fit w (word_at before w)
   unfolding word_at
   word_fit before w = kind_fit w (after_name w) (word_kind before (name_of w) (after_name w)) (after_tail w) (word_lined before (name_of w) (after_name w))
 
@@ -236,7 +236,7 @@ module _ (L : ℕ → ℕ) where
   unfolding block_comment_at
   block_fit fresh w = fit_if w (fresh && starts (codes "=begin") w) _ None (comment_rest w (from_first (10 ∷ codes "=end") w) refl) tt
 
-  unary_fit : (before : Before) (b : ℕ) (w : Bytes) → Fit (b ∷ w) (unary_name_at before w)
+  unary_fit : (before : WordContext) (b : ℕ) (w : Bytes) → Fit (b ∷ w) (unary_name_at before w)
   unary_fit before b w = fit_if _ (is_method_name before && begins_with 64 w) _ None (behind (tail_drop 1 w), tt) tt
 
   pub forms_fit : (text : Bytes) (s : State) (c : Class) (b : ℕ) (w : Bytes) → AllFit (b ∷ w) (forms text s c b w)

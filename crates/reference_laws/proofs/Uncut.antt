@@ -217,7 +217,7 @@ module _ (source : Bytes) (k n : ℕ) (fewer : k ≤ n) where
 
   -- The walk was not cut, and neither is the reader of the statement where it ends.
   pub record Uncut (p : Place) : Type 0 where
-    pub assigned_value : p.cut ≡ false
+    pub whole : p.cut ≡ false
     pub next_one : begins_statement source p.rest ≡ true → read_stmt source (readers source k) own p.rest p.scope ≡ deep → ⊥
 
   -- what is read behind a statement
@@ -233,8 +233,8 @@ module _ (source : Bytes) (k n : ℕ) (fewer : k ≤ n) where
   behind m further w s room _ (got {t = t} {r = q} {z = y} d) is h =
       value_if Uncut (is_newline q) _ _
       (λ e. further (next q) y (omega (arith, newline_less q e, shorter_stmt source (derives source k) (shorters source k) own _ _ _ _ _ d)) (λ x. h (rw (e, x))))
-      (λ e. record { assigned_value = refl; next_one = λ b x. let no : taken t q y ≡ deep = sym is ∙ x in absurd cc })
-  behind m further w s room _ at_fault is h = record { assigned_value = refl; next_one = λ b x. let no : fault ≡ deep = sym is ∙ x in absurd cc }
+      (λ e. record { whole = refl; next_one = λ b x. let no : taken t q y ≡ deep = sym is ∙ x in absurd cc })
+  behind m further w s room _ at_fault is h = record { whole = refl; next_one = λ b x. let no : fault ≡ deep = sym is ∙ x in absurd cc }
   behind m further w s room _ at_depth is h = absurd (h refl)
 
   listed_deep : (m : ℕ) (o : Answer Tree) → o ≡ deep → listed m o ≡ deep
@@ -256,7 +256,7 @@ module _ (source : Bytes) (k n : ℕ) (fewer : k ≤ n) where
       (λ e. uncut m (next w) s (omega (arith, newline_less w e)) (λ x. h (rw (e, x))))
       (λ e. value_if Uncut (begins_statement source w) _ _
       (λ b. at_statement m (uncut m) w s room (stable_stmt source _ _ stables own w s) (λ x. h (rw (e, b, x))))
-      (λ b. record { assigned_value = refl; next_one = λ c x. true≢false (sym c ∙ b) }))
+      (λ b. record { whole = refl; next_one = λ c x. true≢false (sym c ∙ b) }))
 
   pub uncut_front : (w : Toks) (s : Scope) → (read_stmts source (readers source k) own w s ≡ deep → ⊥) → Uncut (front_of source (readers source n) w s)
   unfolding front_of read_stmts
@@ -309,7 +309,7 @@ module _ (source : Bytes) (n end : ℕ) where
       let F = walked source n w s in
       let shorter : count_of p.rest ≤ count_of w = shorter_part F.first _ w F.parts in
       behind_header k fewer p.rest p.scope U.next_one (λ j r z less at_most g x. walk_uncut m j r z (omega arith) at_most g x) (header_at source (readers source n) p.rest p.scope) (sound_header source n p.rest p.scope) refl
-      (if_none p.cut _ U.assigned_value (sym (stops_step source n end w s) ∙ none))
+      (if_none p.cut _ U.whole (sym (stops_step source n end w s) ∙ none))
 
   stmts_are : (w : Toks) (s : Scope) → (readers source (suc n)).stmts own w s ≡ read_stmts source (readers source n) own w s
   unfolding readers

@@ -18,10 +18,7 @@ use ruby_lexer::{Token, TokenPrefix, before_end, newlines};
 use ruby_tree::{Program, SymbolTable, placement_fault};
 use std::alloc::Global;
 use token_lookahead::{DoBlockOwner, Locals};
-use tree_builder::Subtree;
-
-/// So many symbols of the grammar may nest in one another, and a tree may be so deep.
-const DEPTH: u64 = 200;
+use tree_builder::{MAX_DEPTH, Subtree};
 
 /// What was taken of the tokens of a text.
 #[derive(Drop)]
@@ -82,7 +79,7 @@ fn stop_line(alloc: Global, text: &[u8], front: &TokenPrefix) -> Result<u64, NoM
     let mut parser = parser_of(alloc, front.tokens.as_slice());
     let end = end_line(text, front.fault);
     // Statements nest as they do where the whole file is read, of which they are a part.
-    let line = parse_program::stop_line(DEPTH - 1, context, &mut parser, end)?;
+    let line = parse_program::stop_line(MAX_DEPTH - 1, context, &mut parser, end)?;
     Ok(line.unwrap_or(last_line(text)))
 }
 
@@ -92,7 +89,7 @@ pub fn parse<'a>(alloc: Global, text: &[u8], tokens: &'a [Token]) -> Result<Pars
 {
     let mut parser = parser_of(alloc, tokens);
     let part = parse_program::statements(
-        DEPTH,
+        MAX_DEPTH,
         context_of(alloc, text),
         &mut parser,
         DoBlockOwner::Own,
@@ -150,7 +147,7 @@ fn fault_in(
     if !is_whole(front, parsed) {
         return Ok(Some(stop_line(alloc, text, front)?));
     }
-    if parsed.part.depth > DEPTH {
+    if parsed.part.depth > MAX_DEPTH {
         return Ok(Some(last_line(text)));
     }
     match placement_fault(alloc, &parsed.symbols, &parsed.part.node)? {

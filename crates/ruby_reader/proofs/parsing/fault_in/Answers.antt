@@ -13,21 +13,21 @@ returns-then-not-is_whole c =
     let front = c.args.front.now in
     not_whole c.args.text.now (seen_all front.tokens) front.fault c.requires.front c.args.parsed.now c.requires.taken (sym c.is_whole.ensures ∙ c.if-not-is_whole.true) ∙ ap fault (sym c.in_ok-stop_line.ensures)
 
-pub returns-then-parsed-gt-DEPTH : goal.returns-then-parsed-gt-DEPTH
-returns-then-parsed-gt-DEPTH c =
+pub returns-then-parsed-gt-MAX_DEPTH : goal.returns-then-parsed-gt-MAX_DEPTH
+returns-then-parsed-gt-MAX_DEPTH c =
     let front = c.args.front.now in
-    tree_too_deep c.args.text.now (seen_all front.tokens) front.fault c.requires.front c.args.parsed.now c.requires.taken (sym c.is_whole.ensures ∙ c.if-not-is_whole.false) c.if-parsed-gt-DEPTH.true ∙ ap fault (sym c.last_line.ensures)
+    tree_too_deep c.args.text.now (seen_all front.tokens) front.fault c.requires.front c.args.parsed.now c.requires.taken (sym c.is_whole.ensures ∙ c.if-not-is_whole.false) c.if-parsed-gt-MAX_DEPTH.true ∙ ap fault (sym c.last_line.ensures)
 
 pub returns-in-Some : goal.returns-in-Some
 returns-in-Some c =
     let front = c.args.front.now in
     let p = c.args.parsed.now in
     let first = subst (λ (m : Option Misplaced). IfSome m (IsFirstFault (faults (at_home file) (tree_of p.symbols p.part.node)))) c.in-Some.is c.in_ok-fault.ensures.first in
-    misplaced c.args.text.now (seen_all front.tokens) front.fault c.requires.front p c.requires.taken (sym c.is_whole.ensures ∙ c.if-not-is_whole.false) c.if-parsed-gt-DEPTH.false c.in-Some.fault first
+    misplaced c.args.text.now (seen_all front.tokens) front.fault c.requires.front p c.requires.taken (sym c.is_whole.ensures ∙ c.if-not-is_whole.false) c.if-parsed-gt-MAX_DEPTH.false c.in-Some.fault first
 
 pub returns-in-None : goal.returns-in-None
 returns-in-None c =
     let front = c.args.front.now in
     let p = c.args.parsed.now in
     let none = subst (λ (m : Option Misplaced). IsNone m) (sym c.in-None.is) refl in
-    all_placed c.args.text.now (seen_all front.tokens) front.fault c.requires.front p c.requires.taken (sym c.is_whole.ensures ∙ c.if-not-is_whole.false) c.if-parsed-gt-DEPTH.false (c.in_ok-fault.ensures.none.0 none)
+    all_placed c.args.text.now (seen_all front.tokens) front.fault c.requires.front p c.requires.taken (sym c.is_whole.ensures ∙ c.if-not-is_whole.false) c.if-parsed-gt-MAX_DEPTH.false (c.in_ok-fault.ensures.none.0 none)

@@ -8,7 +8,7 @@ invariant_of-result c =
     let source = c.args.text.now in
     let p = c.args.parsed in
     record {
-      assigned_value = ∣ record {
+      whole = ∣ record {
         names = c.requires.names;
         source = source;
         read = is_read source (tree (tree_of p.symbols p.part.node)) c.requires.is;
