@@ -500,7 +500,11 @@ const ROWS_WITH_NO_SEQUENCE: &[(usize, &str, Option<bool>)] = &[
 #[test]
 fn unsound_bodies_are_refused_and_their_twins_accepted(rt: HostRuntime) -> Result<(), Fail> {
     for (id, unsound, sound) in PAIRS {
-        assert_eq!(rt; soundness(rt.alloc(), *id, unsound)?, Some(false), "{unsound}");
+        assert_eq!(rt;
+            soundness(rt.alloc(), *id, unsound)?,
+            Some(false),
+            "{unsound}"
+        );
         assert_eq!(rt; soundness(rt.alloc(), *id, sound)?, Some(true), "{sound}");
     }
     for (id, text, found) in ROWS_WITH_NO_SEQUENCE {
