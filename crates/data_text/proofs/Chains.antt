@@ -1,7 +1,7 @@
 -- Parts that follow one another.
 use Rattle.std.proofs.Common.{◌≡◌, ℕ, List, [], ◌∷◌, ◌++◌, length, sym, ◌∙◌, ap, subst, append_assoc, Result, Err, MatchResult, Bor}
-use Rattle.data_text.specs.declared.fault.Stop.{Stop}
-use Rattle.data_text.specs.declared.fault.Stop.TheVariants as stop
+use Rattle.msgpack_codec.specs.declared.stop.Stop.{Stop}
+use Rattle.msgpack_codec.specs.declared.stop.Stop.TheVariants as stop
 use Rattle.data_text.specs.Reading.{Found, Begins, Fails, Shorts, Stopped, StoppedBy, Anything}
 
 -- C reads an x by L and then a y by M x
@@ -109,6 +109,78 @@ module _ {X Z : Type 0} (Q : X → List ℕ → List ℕ → Type 0) (R : Z → 
     dead = λ z u t h. let (y, k, is) = view.from z (b.front ++ b.byte ∷ u) t h in b.dead y u t k;
   }
   stop_view Behind w stop.NoMemory b = tt
+
+-- R reads this byte and then what Q reads, as another value
+pub record IsBehind {X Z : Type 0} (Q : X → List ℕ → List ℕ → Type 0) (R : Z → List ℕ → List ℕ → Type 0) (f : X → Z) (b : ℕ) : Type 0 where
+  pub to : (x : X) (u t : List ℕ) → Q x u t → R (f x) (b ∷ u) t
+  pub from : (z : Z) (u t : List ℕ) → R z (b ∷ u) t → (x : X) × Q x u t × (z ≡ f x)
+
+module _ {X Z : Type 0} (Q : X → List ℕ → List ℕ → Type 0) (R : Z → List ℕ → List ℕ → Type 0) (f : X → Z) (b : ℕ) (behind : IsBehind Q R f b) where
+  pub found_behind : (x : X) (w rest r : List ℕ) → w ≡ b ∷ rest → Found Q x rest r → Found R (f x) w r
+  found_behind x w rest r e a = record {
+    front = b ∷ a.front;
+    parts = e ∙ ap (λ k. b ∷ k) a.parts;
+    reads = λ u. behind.to x (a.front ++ u) u (a.reads u);
+    only = λ z u t h. let (y, k, is) = behind.from z (a.front ++ u) t h in let (p, q) = a.only y u t k in (is ∙ ap f p, q);
+  }
+
+  begins_behind : (Behind : List ℕ → Type 0) (v : List ℕ) → Begins Behind Q v → Begins Behind R (b ∷ v)
+  begins_behind Behind v g = record { value = f g.value; more = g.more; reads = λ t h. behind.to g.value (v ++ (g.more ++ t)) t (g.reads t h) }
+
+  pub stop_behind : (Behind : List ℕ → Type 0) (w rest : List ℕ) (e : Stop) → w ≡ b ∷ rest → StoppedBy Behind Q rest e → StoppedBy Behind R w e
+  stop_behind Behind w rest stop.Short is g = subst (Shorts Behind R) (sym is) (record {
+    begins = begins_behind Behind rest g.begins;
+    none = λ z t h. let (y, k, is1) = behind.from z rest t h in g.none y t k;
+  })
+  stop_behind Behind w rest (stop.Bad left) is g = record {
+    front = b ∷ g.front;
+    byte = g.byte;
+    rest = g.rest;
+    parts = is ∙ ap (λ k. b ∷ k) g.parts;
+    count = g.count;
+    begins = begins_behind Behind g.front g.begins;
+    dead = λ z u t h. let (y, k, is1) = behind.from z (g.front ++ g.byte ∷ u) t h in g.dead y u t k;
+  }
+  stop_behind Behind w rest stop.NoMemory is g = tt
+
+-- a list with something behind a front begins as the front or the thing does
+first_of : (b c : ℕ) (front rest after u : List ℕ) → b ∷ after ≡ front ++ c ∷ rest → (k : List ℕ) × (front ++ c ∷ u ≡ b ∷ k)
+first_of b c [] rest after u e = (u, cc)
+first_of b c (x ∷ front) rest after u e = let head : x ≡ b = cc in (front ++ c ∷ u, ap (λ k. k ∷ (front ++ c ∷ u)) head)
+
+-- R reads what Q reads, as another value, from what begins with this byte
+pub record IsViewAt {X Z : Type 0} (Q : X → List ℕ → List ℕ → Type 0) (R : Z → List ℕ → List ℕ → Type 0) (f : X → Z) (b : ℕ) : Type 0 where
+  pub to : (x : X) (u t : List ℕ) → Q x u t → R (f x) u t
+  pub from : (z : Z) (m t : List ℕ) → R z (b ∷ m) t → (x : X) × Q x (b ∷ m) t × (z ≡ f x)
+
+module _ {X Z : Type 0} (Q : X → List ℕ → List ℕ → Type 0) (R : Z → List ℕ → List ℕ → Type 0) (f : X → Z) (b : ℕ) (view : IsViewAt Q R f b) where
+  begins_at : (Behind : List ℕ → Type 0) (w : List ℕ) → Begins Behind Q w → Begins Behind R w
+  begins_at Behind w g = record { value = f g.value; more = g.more; reads = λ t h. view.to g.value (w ++ (g.more ++ t)) t (g.reads t h) }
+
+  -- what it reads from there
+  read_at : (z : Z) (u m t : List ℕ) → u ≡ b ∷ m → R z u t → (x : X) × Q x u t
+  read_at z u m t e h =
+      let (x, k, is) = view.from z m t (subst (λ v. R z v t) e h) in
+      (x, subst (λ v. Q x v t) (sym e) k)
+
+  pub stop_at : (Behind : List ℕ → Type 0) (w after : List ℕ) (e : Stop) → w ≡ b ∷ after → StoppedBy Behind Q w e → StoppedBy Behind R w e
+  stop_at Behind w after stop.Short is g = record {
+    begins = begins_at Behind w g.begins;
+    none = λ z t h. let (x, k) = read_at z w after t is h in g.none x t k;
+  }
+  stop_at Behind w after (stop.Bad left) is g = record {
+    front = g.front;
+    byte = g.byte;
+    rest = g.rest;
+    parts = g.parts;
+    count = g.count;
+    begins = begins_at Behind g.front g.begins;
+    dead = λ z u t h.
+        let (m, e) = first_of b g.byte g.front g.rest after u (sym is ∙ g.parts) in
+        let (x, k) = read_at z (g.front ++ g.byte ∷ u) m t e h in
+        g.dead x u t k;
+  }
+  stop_at Behind w after stop.NoMemory is g = tt
 
 -- one byte
 pub one_byte : {X : Type 0} (R : X → List ℕ → List ℕ → Type 0) (x : X) (b : ℕ) (w r : List ℕ) → w ≡ b ∷ r → ((u : List ℕ) → R x (b ∷ u) u) → ((y : X) (u t : List ℕ) → R y (b ∷ u) t → (y ≡ x) × (t ≡ u)) → Found R x w r

@@ -3,10 +3,10 @@ use Rattle.std.proofs.Common.{◌≡◌, ℕ, ℤ, pos, ◌<◌, ◌≤◌, ◌+
 use Rattle.std.proofs.lemmas.Bool.{false≢true}
 use Rattle.std.proofs.lemmas.Bool.Decides.{nat_tests}
 use Rattle.std.specs.List.{list_all}
-use Rattle.data_text.specs.declared.fault.Stop.{Stop}
-use Rattle.data_text.specs.declared.fault.Stop.TheVariants as stop
+use Rattle.msgpack_codec.specs.declared.stop.Stop.{Stop}
 use Rattle.data_text.specs.Json.{is_digit, BeginsNoDigit, number_of, AreDigits, MagnitudeAt, NumberAt, minus}
-use Rattle.data_text.specs.Reading.{FoundValue, Begins, Fails, Shorts, StoppedBy, Fits}
+use Rattle.data_text.specs.Reading.{FoundValue, Begins, Fails, StoppedBy, Fits}
+use Rattle.data_text.proofs.Chains.{IsBehind, stop_behind, IsViewAt, stop_at}
 
 pub no_digit_first : (b : ℕ) (r u : List ℕ) → BeginsNoDigit r → r ≡ b ∷ u → is_digit b ≡ false
 no_digit_first b r u n e = subst BeginsNoDigit e n
@@ -191,29 +191,11 @@ negative_found size w rest r e f = record {
   only = λ y u t fits h. let (m, k, is) = negative_only y (f.front ++ u) t h in let (p, q) = f.only m u t fits k in (is ∙ ap minus p, q);
 }
 
-pub negative_begins : (rest : List ℕ) → Begins BeginsNoDigit (MagnitudeAt (2 ^ 63)) rest → Begins BeginsNoDigit NumberAt (45 ∷ rest)
-negative_begins rest b = record { value = minus b.value; more = b.more; reads = λ t h. NumberAt.negative b.value (rest ++ (b.more ++ t)) refl (b.reads t h) refl }
+minus_behind : IsBehind (MagnitudeAt (2 ^ 63)) NumberAt (λ m. minus m) 45
+minus_behind = record { to = λ m u t h. NumberAt.negative m u refl h refl; from = λ y u t h. negative_only y u t h }
 
 pub negative_stop : (w rest : List ℕ) (e : Stop) → w ≡ 45 ∷ rest → StoppedBy BeginsNoDigit (MagnitudeAt (2 ^ 63)) rest e → StoppedBy BeginsNoDigit NumberAt w e
-negative_stop w rest stop.Short is b = subst (Shorts BeginsNoDigit NumberAt) (sym is) (record {
-  begins = negative_begins rest b.begins;
-  none = λ y t h. let (m, k, is1) = negative_only y rest t h in b.none m t k;
-})
-negative_stop w rest (stop.Bad left) is b = record {
-  front = 45 ∷ b.front;
-  byte = b.byte;
-  rest = b.rest;
-  parts = is ∙ ap (λ k. 45 ∷ k) b.parts;
-  count = b.count;
-  begins = negative_begins b.front b.begins;
-  dead = λ y u t h. let (m, k, is1) = negative_only y (b.front ++ b.byte ∷ u) t h in b.dead m u t k;
-}
-negative_stop w rest stop.NoMemory is b = tt
-
--- a list with something behind a front begins as the front or the thing does
-pub first_of : (b c : ℕ) (front rest after u : List ℕ) → b ∷ after ≡ front ++ c ∷ rest → (k : List ℕ) × (front ++ c ∷ u ≡ b ∷ k)
-first_of b c [] rest after u e = (u, cc)
-first_of b c (x ∷ front) rest after u e = let head : x ≡ b = cc in (front ++ c ∷ u, ap (λ k. k ∷ (front ++ c ∷ u)) head)
+negative_stop w rest e is h = stop_behind (MagnitudeAt (2 ^ 63)) NumberAt (λ m. minus m) 45 minus_behind BeginsNoDigit w rest e is h
 
 no_front : (ds u : List ℕ) → AreDigits ds → u ≡ ds ++ u → ⊥
 no_front [] u a e = a
@@ -235,32 +217,14 @@ natural_found b size w after r e ne f = record {
       (is1 ∙ ap pos p, q);
 }
 
-natural_begins : (rest : List ℕ) → Begins BeginsNoDigit (MagnitudeAt (2 ^ 63 - 1)) rest → Begins BeginsNoDigit NumberAt rest
-natural_begins rest b = record { value = pos b.value; more = b.more; reads = λ t h. NumberAt.natural b.value (b.reads t h) refl }
+natural_view : (b : ℕ) → (b ≡ 45 → ⊥) → IsViewAt (MagnitudeAt (2 ^ 63 - 1)) NumberAt (λ m. pos m) b
+natural_view b ne = record { to = λ m u t h. NumberAt.natural m h refl; from = λ y m t h. natural_only b y m t ne h }
 
 pub natural_stop : (b : ℕ) (w after : List ℕ) (e : Stop) → w ≡ b ∷ after → (b ≡ 45 → ⊥) → StoppedBy BeginsNoDigit (MagnitudeAt (2 ^ 63 - 1)) w e → StoppedBy BeginsNoDigit NumberAt w e
-natural_stop b w after stop.Short is ne s = record {
-  begins = natural_begins w s.begins;
-  none = λ y t h.
-      let (m, g, is1) = natural_only b y after t ne (subst (λ v. NumberAt y v t) is h) in
-      s.none m t (subst (λ v. MagnitudeAt (2 ^ 63 - 1) m v t) (sym is) g);
-}
-natural_stop b w after (stop.Bad left) is ne s = record {
-  front = s.front;
-  byte = s.byte;
-  rest = s.rest;
-  parts = s.parts;
-  count = s.count;
-  begins = natural_begins s.front s.begins;
-  dead = λ y u t h.
-      let (k, e) = first_of b s.byte s.front s.rest after u (sym is ∙ s.parts) in
-      let (m, g, is1) = natural_only b y k t ne (subst (λ v. NumberAt y v t) e h) in
-      s.dead m u t (subst (λ v. MagnitudeAt (2 ^ 63 - 1) m v t) (sym e) g);
-}
-natural_stop b w after stop.NoMemory is ne s = tt
+natural_stop b w after e is ne h = stop_at (MagnitudeAt (2 ^ 63 - 1)) NumberAt (λ m. pos m) b (natural_view b ne) BeginsNoDigit w after e is h
 
 pub begins_number : Begins BeginsNoDigit NumberAt []
-begins_number = natural_begins [] (some_number (2 ^ 63 - 1))
+begins_number = let g = some_number (2 ^ 63 - 1) in record { value = pos g.value; more = g.more; reads = λ t h. NumberAt.natural g.value (g.reads t h) refl }
 
 pub ends_none : (r : List ℕ) → r ≡ [] → BeginsNoDigit r
 ends_none r e = subst BeginsNoDigit (sym e) tt

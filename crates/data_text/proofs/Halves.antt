@@ -2,7 +2,7 @@
 use Rattle.std.proofs.Common.{◌≡◌, ℕ, ◌<◌, ◌≤◌, ◌+◌, ◌-◌, ◌*◌, Bool, true, false, if◌then◌else◌, nat_le, List, [], ◌∷◌, ◌++◌, length, refl, sym, ◌∙◌, ap, subst, ◌⊎◌, inl, inr, append_assoc, arith}
 use Rattle.std.proofs.lemmas.Bool.{false≢true}
 use Rattle.std.proofs.lemmas.Bool.Decides.{nat_tests}
-use Rattle.data_text.specs.declared.fault.Stop.{Stop}
+use Rattle.msgpack_codec.specs.declared.stop.Stop.{Stop}
 use Rattle.data_text.specs.Json.{hex_value, DigitAt, UnitAt, is_low, is_high, CodeAt}
 use Rattle.data_text.specs.Reading.{Found, Begins, Fails, Stopped, Anything, WordAt, HalfAt, least_first, most_first, least_second, most_second, TailAt}
 use Rattle.data_text.proofs.Chains.{IsChain, IsView, found_both, stop_first, stop_second, found_view, stop_view, one_byte, bad_byte}

@@ -4,11 +4,10 @@ use Rattle.std.proofs.lemmas.Bool.{false≢true}
 use Rattle.std.proofs.lemmas.Bool.Decides.{nat_tests}
 use Rattle.std.specs.Char.{encode_utf8}
 use Rattle.std.specs.List.{concat}
-use Rattle.data_text.specs.declared.fault.Stop.{Stop}
-use Rattle.data_text.specs.declared.fault.Stop.TheVariants as stop
+use Rattle.msgpack_codec.specs.declared.stop.Stop.{Stop}
 use Rattle.data_text.specs.Json.{CharAt, CodeAt, RunAt, StringAt, KeyAt, is_plain, short_escape}
-use Rattle.data_text.specs.Reading.{Found, Begins, Fails, Shorts, Stopped, Anything, Marked, EscapeAt, TokenAt}
-use Rattle.data_text.proofs.Chains.{IsChain, IsView, found_both, stop_first, stop_second, found_view, stop_view, one_byte, bad_byte}
+use Rattle.data_text.specs.Reading.{Found, Begins, Fails, Stopped, Anything, Marked, EscapeAt, TokenAt}
+use Rattle.data_text.proofs.Chains.{IsChain, IsView, IsBehind, found_both, stop_first, stop_second, found_view, stop_view, found_behind, stop_behind, one_byte, bad_byte}
 use Rattle.data_text.proofs.Runs.{Behind, none_yet, one_more, last_part, stop_run}
 use Rattle.data_text.proofs.Halves.{Then, chain_then}
 
@@ -22,32 +21,14 @@ escape_code : (y m t : List ℕ) → EscapeAt y (117 ∷ m) t → (c : ℕ) × C
 escape_code y m t (EscapeAt.short b c e is bytes) = let head : b ≡ 117 = cc in none_some c _ (ap short_escape (sym head) ∙ is)
 escape_code y m t (EscapeAt.code c k e h bytes) = let tail : k ≡ m = cc in (c, subst (λ v. CodeAt c v t) tail h, bytes)
 
-pub code_escape : (c : ℕ) (w rest r : List ℕ) → w ≡ 117 ∷ rest → Found CodeAt c rest r → Found EscapeAt (encode_utf8 c) w r
-code_escape c w rest r e f = record {
-  front = 117 ∷ f.front;
-  parts = e ∙ ap (λ v. 117 ∷ v) f.parts;
-  reads = λ u. EscapeAt.code c (f.front ++ u) refl (f.reads u) refl;
-  only = λ y u t h. let (c1, k, is) = escape_code y (f.front ++ u) t h in let (p, q) = f.only c1 u t k in (is ∙ ap encode_utf8 p, q);
-}
+code_behind : IsBehind CodeAt EscapeAt (λ c. encode_utf8 c) 117
+code_behind = record { to = λ c u t h. EscapeAt.code c u refl h refl; from = λ y u t h. escape_code y u t h }
 
-code_begins : (v : List ℕ) → Begins Anything CodeAt v → Begins Anything EscapeAt (117 ∷ v)
-code_begins v b = record { value = encode_utf8 b.value; more = b.more; reads = λ t h. EscapeAt.code b.value (v ++ (b.more ++ t)) refl (b.reads t h) refl }
+pub code_escape : (c : ℕ) (w rest r : List ℕ) → w ≡ 117 ∷ rest → Found CodeAt c rest r → Found EscapeAt (encode_utf8 c) w r
+code_escape c w rest r e f = found_behind CodeAt EscapeAt (λ c. encode_utf8 c) 117 code_behind c w rest r e f
 
 pub code_stops : (w rest : List ℕ) (e : Stop) → w ≡ 117 ∷ rest → Stopped CodeAt rest e → Stopped EscapeAt w e
-code_stops w rest stop.Short is b = subst (Shorts Anything EscapeAt) (sym is) (record {
-  begins = code_begins rest b.begins;
-  none = λ y t h. let (c, k, is1) = escape_code y rest t h in b.none c t k;
-})
-code_stops w rest (stop.Bad left) is b = record {
-  front = 117 ∷ b.front;
-  byte = b.byte;
-  rest = b.rest;
-  parts = is ∙ ap (λ v. 117 ∷ v) b.parts;
-  count = b.count;
-  begins = code_begins b.front b.begins;
-  dead = λ y u t h. let (c, k, is1) = escape_code y (b.front ++ b.byte ∷ u) t h in b.dead c u t k;
-}
-code_stops w rest stop.NoMemory is b = tt
+code_stops w rest e is h = stop_behind CodeAt EscapeAt (λ c. encode_utf8 c) 117 code_behind Anything w rest e is h
 
 escape_short : (b : ℕ) (y m t : List ℕ) → (b ≡ 117 → ⊥) → EscapeAt y (b ∷ m) t → (c : ℕ) × (short_escape b ≡ Some c) × (y ≡ c ∷ []) × (t ≡ m)
 escape_short b y m t ne (EscapeAt.short k c e is bytes) = let head : k ≡ b = cc in let tail : t ≡ m = cc in (c, ap short_escape (sym head) ∙ is, bytes, tail)
@@ -126,35 +107,17 @@ escape_char : (bytes m t : List ℕ) → EscapeAt bytes m t → CharAt bytes fal
 escape_char bytes m t (EscapeAt.short b c e s is) = CharAt.short b c (ap (λ v. 92 ∷ v) e) s is refl
 escape_char bytes m t (EscapeAt.code c k e h is) = CharAt.code c k (ap (λ v. 92 ∷ v) e) h is refl
 
-pub escape_found : (piece w rest r : List ℕ) → w ≡ 92 ∷ rest → Found EscapeAt piece rest r → Found (Marked CharAt) (piece, false) w r
-escape_found piece w rest r e f = record {
-  front = 92 ∷ f.front;
-  parts = e ∙ ap (λ v. 92 ∷ v) f.parts;
-  reads = λ u. escape_char piece (f.front ++ u) u (f.reads u);
-  only = λ y u t h.
-      let (k, l) = escape_first y (f.front ++ u) t (char_first y.0 y.1 92 (f.front ++ u) t h) in
-      let (p, q) = f.only y.0 u t k in
-      (pair_is y.0 piece y.1 false p l, q);
+escape_behind : IsBehind EscapeAt (Marked CharAt) (λ piece. (piece, false)) 92
+escape_behind = record {
+  to = λ piece u t h. escape_char piece u t h;
+  from = λ y u t h. let (k, l) = escape_first y u t (char_first y.0 y.1 92 u t h) in (y.0, k, pair_is y.0 y.0 y.1 false refl l);
 }
 
-escape_begun : (v : List ℕ) → Begins Anything EscapeAt v → Begins Anything (Marked CharAt) (92 ∷ v)
-escape_begun v b = record { value = (b.value, false); more = b.more; reads = λ t h. escape_char b.value (v ++ (b.more ++ t)) t (b.reads t h) }
+pub escape_found : (piece w rest r : List ℕ) → w ≡ 92 ∷ rest → Found EscapeAt piece rest r → Found (Marked CharAt) (piece, false) w r
+escape_found piece w rest r e f = found_behind EscapeAt (Marked CharAt) (λ piece. (piece, false)) 92 escape_behind piece w rest r e f
 
 pub escape_stops : (w rest : List ℕ) (e : Stop) → w ≡ 92 ∷ rest → Stopped EscapeAt rest e → Stopped (Marked CharAt) w e
-escape_stops w rest stop.Short is b = subst (Shorts Anything (Marked CharAt)) (sym is) (record {
-  begins = escape_begun rest b.begins;
-  none = λ y t h. let (k, l) = escape_first y rest t (char_first y.0 y.1 92 rest t h) in b.none y.0 t k;
-})
-escape_stops w rest (stop.Bad left) is b = record {
-  front = 92 ∷ b.front;
-  byte = b.byte;
-  rest = b.rest;
-  parts = is ∙ ap (λ v. 92 ∷ v) b.parts;
-  count = b.count;
-  begins = escape_begun b.front b.begins;
-  dead = λ y u t h. let (k, l) = escape_first y (b.front ++ b.byte ∷ u) t (char_first y.0 y.1 92 (b.front ++ b.byte ∷ u) t h) in b.dead y.0 u t k;
-}
-escape_stops w rest stop.NoMemory is b = tt
+escape_stops w rest e is h = stop_behind EscapeAt (Marked CharAt) (λ piece. (piece, false)) 92 escape_behind Anything w rest e is h
 
 -- strings
 string_view : IsView (RunAt CharAt) StringAt (λ parts. concat parts)

@@ -5,14 +5,14 @@ use Rattle.std.specs.Str.{bytes_eq}
 use Rattle.indexmap.specs.IndexMap.{insert_all, insert_entry}
 use Rattle.msgpack_codec.specs.declared.value.Value.{Value}
 use Rattle.msgpack_codec.specs.declared.value.Value.TheVariants as value
-use Rattle.data_text.specs.declared.fault.Stop.{Stop}
-use Rattle.data_text.specs.declared.fault.Stop.TheVariants as stop
+use Rattle.msgpack_codec.specs.declared.stop.Stop.{Stop}
+use Rattle.msgpack_codec.specs.declared.stop.Stop.TheVariants as stop
 use Rattle.data_text.specs.Json.{is_digit, is_blank, behind_blanks, BeginsNoDigit, NumberAt, ScalarAt, NestAt, ValueAt, RunAt, CharAt, BracketsAt, ElementAt, MemberAt, KeyAt, DelimiterAt, pair_of, pairs_of}
 use Rattle.data_text.specs.Reading.{Found, FoundValue, Begins, Shorts, Stopped, StoppedBy, Anything, Fits, Marked, ListAt, MapAt, EntriesAt}
-use Rattle.data_text.proofs.Chains.{IsChain, IsView, found_both, stop_first, stop_second, found_view, stop_view}
+use Rattle.data_text.proofs.Chains.{IsChain, IsView, IsBehind, IsViewAt, found_both, stop_first, stop_second, found_view, stop_view, found_behind, stop_behind, stop_at}
 use Rattle.data_text.proofs.Runs.{Behind, none_yet, one_more, last_part, stop_run}
 use Rattle.data_text.proofs.Spaces.{Skips, skips, IsBlind, found_skipped, stop_skipped, no_blank, tight_first, not_blank}
-use Rattle.data_text.proofs.Digits.{first_of, number_first}
+use Rattle.data_text.proofs.Digits.{number_first}
 use Rattle.data_text.proofs.Letters.{pair_is}
 use Rattle.data_text.proofs.Scalars.{scalar_some, found_value, stop_value}
 
@@ -381,32 +381,14 @@ module _ {X : Type 0} (P : X → Bool → List ℕ → List ℕ → Type 0) (clo
             f.only ys u t (subst (λ v. RunAt P ys v t) (sym at) (parts_of ys c k t n ne (subst (λ v. BracketsAt P close ys v t) at h)));
       })
 
-  parts_begin : (w : List ℕ) → Begins Anything (RunAt P) w → Begins Anything (BracketsAt P close) w
-  parts_begin w b = record { value = b.value; more = b.more; reads = λ t h. BracketsAt.parts (b.reads t h) }
-
-  stop_at_rest : (rest after : List ℕ) (c : ℕ) → rest ≡ c ∷ after → is_blank c ≡ false → (c ≡ close → ⊥) → (e : Stop) → Stopped (RunAt P) rest e → Stopped (BracketsAt P close) rest e
-  stop_at_rest rest after c is n ne stop.Short b = record {
-    begins = parts_begin rest b.begins;
-    none = λ ys t h. b.none ys t (subst (λ v. RunAt P ys v t) (sym is) (parts_of ys c after t n ne (subst (λ v. BracketsAt P close ys v t) is h)));
-  }
-  stop_at_rest rest after c is n ne (stop.Bad left) b = record {
-    front = b.front;
-    byte = b.byte;
-    rest = b.rest;
-    parts = b.parts;
-    count = b.count;
-    begins = parts_begin b.front b.begins;
-    dead = λ ys u t h.
-        let (k, at) = first_of c b.byte b.front b.rest after u (sym is ∙ b.parts) in
-        b.dead ys u t (subst (λ v. RunAt P ys v t) (sym at) (parts_of ys c k t n ne (subst (λ v. BracketsAt P close ys v t) at h)));
-  }
-  stop_at_rest rest after c is n ne stop.NoMemory b = tt
+  parts_view : (c : ℕ) → is_blank c ≡ false → (c ≡ close → ⊥) → IsViewAt (RunAt P) (BracketsAt P close) (λ xs. xs) c
+  parts_view c n ne = record { to = λ xs u t h. BracketsAt.parts h; from = λ ys m t h. (ys, parts_of ys c m t n ne h, refl) }
 
   pub parts_stop : (w rest after : List ℕ) (c : ℕ) (e : Stop) → rest ≡ behind_blanks w → rest ≡ c ∷ after → (c ≡ close → ⊥) → Stopped (RunAt P) rest e → Stopped (BracketsAt P close) w e
   parts_stop w rest after c e is0 is ne h =
       let s : Skips w rest = subst (Skips w) (sym is0) (skips w) in
       let n : is_blank c ≡ false = tight_first c after (subst (λ v. behind_blanks v ≡ v) is s.tight) in
-      stop_skipped (BracketsAt P close) brackets_blind w rest s e (stop_at_rest rest after c is n ne e h)
+      stop_skipped (BracketsAt P close) brackets_blind w rest s e (stop_at (RunAt P) (BracketsAt P close) (λ xs. xs) c (parts_view c n ne) Anything rest after e is h)
 
 element_no_close : (levels : ℕ) (x : Value) (last : Bool) (u t : List ℕ) → ElementAt (ValueAt levels) 93 x last (93 ∷ u) t → ⊥
 element_no_close levels x last u t h = value_no_close levels x u h.behind h.inner
@@ -493,35 +475,14 @@ map_found levels entries w rest after r c e is ne f =
           (is1 ∙ ap (λ v. value.Map (map pair_of v)) p, q);
     })
 
-map_begin : (levels : ℕ) (w : List ℕ) → Begins Anything (EntriesAt levels) w → Begins Anything (MapAt levels) w
-map_begin levels w b = record { value = value.Map (map pair_of b.value); more = b.more; reads = λ t h. entries_map levels b.value (w ++ (b.more ++ t)) t (b.reads t h) }
-
-map_stop_at : (levels : ℕ) (rest after : List ℕ) (c : ℕ) → rest ≡ c ∷ after → is_blank c ≡ false → (c ≡ 125 → ⊥) → (e : Stop) → Stopped (EntriesAt levels) rest e → Stopped (MapAt levels) rest e
-map_stop_at levels rest after c is n ne stop.Short b = record {
-  begins = map_begin levels rest b.begins;
-  none = λ y t h.
-      let (es, run, is1) = map_parts levels y c after t n ne (subst (λ v. MapAt levels y v t) is h) in
-      b.none es t (subst (λ v. EntriesAt levels es v t) (sym is) run);
-}
-map_stop_at levels rest after c is n ne (stop.Bad left) b = record {
-  front = b.front;
-  byte = b.byte;
-  rest = b.rest;
-  parts = b.parts;
-  count = b.count;
-  begins = map_begin levels b.front b.begins;
-  dead = λ y u t h.
-      let (k, at) = first_of c b.byte b.front b.rest after u (sym is ∙ b.parts) in
-      let (es, run, is1) = map_parts levels y c k t n ne (subst (λ v. MapAt levels y v t) at h) in
-      b.dead es u t (subst (λ v. EntriesAt levels es v t) (sym at) run);
-}
-map_stop_at levels rest after c is n ne stop.NoMemory b = tt
+map_of_entries : (levels c : ℕ) → is_blank c ≡ false → (c ≡ 125 → ⊥) → IsViewAt (EntriesAt levels) (MapAt levels) (λ entries. value.Map (map pair_of entries)) c
+map_of_entries levels c n ne = record { to = λ entries u t h. entries_map levels entries u t h; from = λ y m t h. map_parts levels y c m t n ne h }
 
 pub map_stop : (levels : ℕ) (w rest after : List ℕ) (c : ℕ) (e : Stop) → rest ≡ behind_blanks w → rest ≡ c ∷ after → (c ≡ 125 → ⊥) → Stopped (EntriesAt levels) rest e → Stopped (MapAt levels) w e
 map_stop levels w rest after c e is0 is ne h =
     let s : Skips w rest = subst (Skips w) (sym is0) (skips w) in
     let n : is_blank c ≡ false = tight_first c after (subst (λ v. behind_blanks v ≡ v) is s.tight) in
-    stop_skipped (MapAt levels) (map_blind levels) w rest s e (map_stop_at levels rest after c is n ne e h)
+    stop_skipped (MapAt levels) (map_blind levels) w rest s e (stop_at (EntriesAt levels) (MapAt levels) (λ entries. value.Map (map pair_of entries)) c (map_of_entries levels c n ne) Anything rest after e is h)
 
 -- values by their first byte
 list_only : (n : ℕ) (y : Value) (m t : List ℕ) → ValueAt (suc n) y (91 ∷ m) t → ListAt n y m t
@@ -542,33 +503,12 @@ map_make n y m t (members, h, is) = NestAt.object members m refl h is
 
 -- what a byte and a part behind it make
 module _ (R V : Value → List ℕ → List ℕ → Type 0) (b : ℕ) (make : (y : Value) (m t : List ℕ) → R y m t → V y (b ∷ m) t) (only : (y : Value) (m t : List ℕ) → V y (b ∷ m) t → R y m t) where
-  behind_found : (x : Value) (w rest r : List ℕ) → w ≡ b ∷ rest → Found R x rest r → Found V x w r
-  behind_found x w rest r e f = record {
-    front = b ∷ f.front;
-    parts = e ∙ ap (λ k. b ∷ k) f.parts;
-    reads = λ u. make x (f.front ++ u) u (f.reads u);
-    only = λ y u t h. f.only y u t (only y (f.front ++ u) t h);
-  }
-
-  behind_begins : (rest : List ℕ) → Begins Anything R rest → Begins Anything V (b ∷ rest)
-  behind_begins rest g = record { value = g.value; more = g.more; reads = λ t h. make g.value (rest ++ (g.more ++ t)) t (g.reads t h) }
-
-  behind_stop : (w rest : List ℕ) (e : Stop) → w ≡ b ∷ rest → Stopped R rest e → Stopped V w e
-  behind_stop w rest stop.Short is g = subst (Shorts Anything V) (sym is) (record { begins = behind_begins rest g.begins; none = λ y t h. g.none y t (only y rest t h) })
-  behind_stop w rest (stop.Bad left) is g = record {
-    front = b ∷ g.front;
-    byte = g.byte;
-    rest = g.rest;
-    parts = is ∙ ap (λ k. b ∷ k) g.parts;
-    count = g.count;
-    begins = behind_begins g.front g.begins;
-    dead = λ y u t h. g.dead y u t (only y (g.front ++ g.byte ∷ u) t h);
-  }
-  behind_stop w rest stop.NoMemory is g = tt
+  value_behind : IsBehind R V (λ y. y) b
+  value_behind = record { to = λ y u t h. make y u t h; from = λ y u t h. (y, only y u t h, refl) }
 
   behind_result : (w rest : List ℕ) (result : Result (Value × Bor (List ℕ)) Stop) → w ≡ b ∷ rest → MatchResult result (λ f. Found R f.0 rest f.1.now) (λ e. Stopped R rest e) → MatchResult result (λ f. FoundValue V f.0 w f.1.now) (λ e. StoppedBy BeginsNoDigit V w e)
-  behind_result w rest (Ok f) e h = found_value V f.0 w f.1.now (behind_found f.0 w rest f.1.now e h)
-  behind_result w rest (Err e) is h = stop_value V w e (behind_stop w rest e is h)
+  behind_result w rest (Ok f) e h = found_value V f.0 w f.1.now (found_behind R V (λ y. y) b value_behind f.0 w rest f.1.now e h)
+  behind_result w rest (Err e) is h = stop_value V w e (stop_behind R V (λ y. y) b value_behind Anything w rest e is h)
 
 pub list_value : (n : ℕ) (w rest : List ℕ) (result : Result (Value × Bor (List ℕ)) Stop) → w ≡ 91 ∷ rest → MatchResult result (λ f. Found (ListAt n) f.0 rest f.1.now) (λ e. Stopped (ListAt n) rest e) → MatchResult result (λ f. FoundValue (ValueAt (suc n)) f.0 w f.1.now) (λ e. StoppedBy BeginsNoDigit (ValueAt (suc n)) w e)
 list_value n w rest result e h = behind_result (ListAt n) (ValueAt (suc n)) 91 (list_make n) (list_only n) w rest result e h
@@ -596,30 +536,12 @@ scalar_value_found n b x w after r e n1 n2 f = record {
       f.only y u t fits (subst (λ v. ScalarAt y v t) (sym at) (scalar_only n b y k t n1 n2 (subst (λ v. ValueAt (suc n) y v t) at h)));
 }
 
-scalar_value_begins : (n : ℕ) (w : List ℕ) → Begins BeginsNoDigit ScalarAt w → Begins BeginsNoDigit (ValueAt (suc n)) w
-scalar_value_begins n w g = record { value = g.value; more = g.more; reads = λ t h. NestAt.scalar (g.reads t h) }
-
-scalar_value_stop : (n b : ℕ) (w after : List ℕ) (e : Stop) → w ≡ b ∷ after → (b ≡ 91 → ⊥) → (b ≡ 123 → ⊥) → StoppedBy BeginsNoDigit ScalarAt w e → StoppedBy BeginsNoDigit (ValueAt (suc n)) w e
-scalar_value_stop n b w after stop.Short is n1 n2 s = record {
-  begins = scalar_value_begins n w s.begins;
-  none = λ y t h. s.none y t (subst (λ v. ScalarAt y v t) (sym is) (scalar_only n b y after t n1 n2 (subst (λ v. ValueAt (suc n) y v t) is h)));
-}
-scalar_value_stop n b w after (stop.Bad left) is n1 n2 s = record {
-  front = s.front;
-  byte = s.byte;
-  rest = s.rest;
-  parts = s.parts;
-  count = s.count;
-  begins = scalar_value_begins n s.front s.begins;
-  dead = λ y u t h.
-      let (k, at) = first_of b s.byte s.front s.rest after u (sym is ∙ s.parts) in
-      s.dead y u t (subst (λ v. ScalarAt y v t) (sym at) (scalar_only n b y k t n1 n2 (subst (λ v. ValueAt (suc n) y v t) at h)));
-}
-scalar_value_stop n b w after stop.NoMemory is n1 n2 s = tt
+scalar_view : (n b : ℕ) → (b ≡ 91 → ⊥) → (b ≡ 123 → ⊥) → IsViewAt ScalarAt (ValueAt (suc n)) (λ y. y) b
+scalar_view n b n1 n2 = record { to = λ y u t h. NestAt.scalar h; from = λ y m t h. (y, scalar_only n b y m t n1 n2 h, refl) }
 
 pub scalar_value : (n b : ℕ) (w after : List ℕ) (result : Result (Value × Bor (List ℕ)) Stop) → w ≡ b ∷ after → (b ≡ 91 → ⊥) → (b ≡ 123 → ⊥) → MatchResult result (λ f. FoundValue ScalarAt f.0 w f.1.now) (λ e. StoppedBy BeginsNoDigit ScalarAt w e) → MatchResult result (λ f. FoundValue (ValueAt (suc n)) f.0 w f.1.now) (λ e. StoppedBy BeginsNoDigit (ValueAt (suc n)) w e)
 scalar_value n b w after (Ok f) e n1 n2 h = scalar_value_found n b f.0 w after f.1.now e n1 n2 h
-scalar_value n b w after (Err e) is n1 n2 h = scalar_value_stop n b w after e is n1 n2 h
+scalar_value n b w after (Err e) is n1 n2 h = stop_at ScalarAt (ValueAt (suc n)) (λ y. y) b (scalar_view n b n1 n2) BeginsNoDigit w after e is h
 
 pub value_begins : (n : ℕ) → Begins BeginsNoDigit (ValueAt n) []
 value_begins n = record { value = value.Nil; more = codes "null"; reads = λ t h. value_null n t }

@@ -4,12 +4,12 @@ use Rattle.std.proofs.lemmas.Bool.{false≢true}
 use Rattle.std.proofs.lemmas.Bool.Decides.{nat_tests}
 use Rattle.msgpack_codec.specs.declared.value.Value.{Value}
 use Rattle.msgpack_codec.specs.declared.value.Value.TheVariants as value
-use Rattle.data_text.specs.declared.fault.Stop.{Stop}
-use Rattle.data_text.specs.declared.fault.Stop.TheVariants as stop
+use Rattle.msgpack_codec.specs.declared.stop.Stop.{Stop}
+use Rattle.msgpack_codec.specs.declared.stop.Stop.TheVariants as stop
 use Rattle.data_text.specs.Json.{is_digit, BeginsNoDigit, NumberAt, StringAt, ScalarAt}
-use Rattle.data_text.specs.Reading.{Found, FoundValue, Begins, Fails, Shorts, Stopped, StoppedBy, Anything, WordAt, BeginsNoOther, begins_number}
-use Rattle.data_text.proofs.Chains.{bad_byte}
-use Rattle.data_text.proofs.Digits.{number_first, number_some, first_of}
+use Rattle.data_text.specs.Reading.{Found, FoundValue, Begins, Fails, Stopped, StoppedBy, Anything, WordAt, BeginsNoOther, begins_number}
+use Rattle.data_text.proofs.Chains.{IsBehind, found_behind, stop_behind, IsViewAt, stop_at, bad_byte}
+use Rattle.data_text.proofs.Digits.{number_first, number_some}
 
 -- a scalar by its first byte
 data First (v : Value) (b : ℕ) (m t : List ℕ) : Type 0 where
@@ -55,32 +55,17 @@ not_number_quote (inr e) = false≢true e
 
 -- null, true and false
 module _ (b : ℕ) (word : List ℕ) (v : Value) (make : (m t : List ℕ) → m ≡ word ++ t → ScalarAt v (b ∷ m) t) (only : (y : Value) (m t : List ℕ) → First y b m t → (m ≡ word ++ t) × (y ≡ v)) where
-  word_found : (w rest r : List ℕ) → w ≡ b ∷ rest → Found (WordAt word) tt rest r → Found ScalarAt v w r
-  word_found w rest r e f = record {
-    front = b ∷ f.front;
-    parts = e ∙ ap (λ k. b ∷ k) f.parts;
-    reads = λ u. make (f.front ++ u) u (f.reads u);
-    only = λ y u t h. let (k, is) = only y (f.front ++ u) t (scalar_first y b (f.front ++ u) t h) in (is, (f.only tt u t k).1);
+  word_behind : IsBehind (WordAt word) ScalarAt (λ x. v) b
+  word_behind = record {
+    to = λ x u t h. make u t h;
+    from = λ y u t h. let (k, is) = only y u t (scalar_first y b u t h) in (tt, k, is);
   }
 
-  word_begins : (rest : List ℕ) → Begins Anything (WordAt word) rest → Begins Anything ScalarAt (b ∷ rest)
-  word_begins rest g = record { value = v; more = g.more; reads = λ t h. make (rest ++ (g.more ++ t)) t (g.reads t h) }
+  word_found : (w rest r : List ℕ) → w ≡ b ∷ rest → Found (WordAt word) tt rest r → Found ScalarAt v w r
+  word_found w rest r e f = found_behind (WordAt word) ScalarAt (λ x. v) b word_behind tt w rest r e f
 
   word_stop : (w rest : List ℕ) (e : Stop) → w ≡ b ∷ rest → Stopped (WordAt word) rest e → Stopped ScalarAt w e
-  word_stop w rest stop.Short is g = subst (Shorts Anything ScalarAt) (sym is) (record {
-    begins = word_begins rest g.begins;
-    none = λ y t h. g.none tt t (only y rest t (scalar_first y b rest t h)).0;
-  })
-  word_stop w rest (stop.Bad left) is g = record {
-    front = b ∷ g.front;
-    byte = g.byte;
-    rest = g.rest;
-    parts = is ∙ ap (λ k. b ∷ k) g.parts;
-    count = g.count;
-    begins = word_begins g.front g.begins;
-    dead = λ y u t h. g.dead tt u t (only y (g.front ++ g.byte ∷ u) t (scalar_first y b (g.front ++ g.byte ∷ u) t h)).0;
-  }
-  word_stop w rest stop.NoMemory is g = tt
+  word_stop w rest e is h = stop_behind (WordAt word) ScalarAt (λ x. v) b word_behind Anything w rest e is h
 
 null_only : (y : Value) (m t : List ℕ) → First y 110 m t → (m ≡ codes "ull" ++ t) × (y ≡ value.Nil)
 null_only y m t (First.null e k is) = (k, is)
@@ -168,32 +153,17 @@ string_only y m t (First.falsity e k is) = absurd (omega arith)
 string_only y m t (First.number n h is b) = absurd (not_number_quote b)
 string_only y m t (First.string s e h is) = (s, h, is)
 
-pub string_found : (s w rest r : List ℕ) → w ≡ 34 ∷ rest → Found StringAt s rest r → Found ScalarAt (value.Str s) w r
-string_found s w rest r e f = record {
-  front = 34 ∷ f.front;
-  parts = e ∙ ap (λ k. 34 ∷ k) f.parts;
-  reads = λ u. ScalarAt.string s (f.front ++ u) refl (f.reads u) refl;
-  only = λ y u t h. let (s1, k, is) = string_only y (f.front ++ u) t (scalar_first y 34 (f.front ++ u) t h) in let (p, q) = f.only s1 u t k in (is ∙ ap (λ v. value.Str v) p, q);
+string_behind : IsBehind StringAt ScalarAt (λ s. value.Str s) 34
+string_behind = record {
+  to = λ s u t h. ScalarAt.string s u refl h refl;
+  from = λ y u t h. string_only y u t (scalar_first y 34 u t h);
 }
 
-string_begins : (rest : List ℕ) → Begins Anything StringAt rest → Begins Anything ScalarAt (34 ∷ rest)
-string_begins rest b = record { value = value.Str b.value; more = b.more; reads = λ t h. ScalarAt.string b.value (rest ++ (b.more ++ t)) refl (b.reads t h) refl }
+pub string_found : (s w rest r : List ℕ) → w ≡ 34 ∷ rest → Found StringAt s rest r → Found ScalarAt (value.Str s) w r
+string_found s w rest r e f = found_behind StringAt ScalarAt (λ s. value.Str s) 34 string_behind s w rest r e f
 
 pub string_stop : (w rest : List ℕ) (e : Stop) → w ≡ 34 ∷ rest → Stopped StringAt rest e → Stopped ScalarAt w e
-string_stop w rest stop.Short is g = subst (Shorts Anything ScalarAt) (sym is) (record {
-  begins = string_begins rest g.begins;
-  none = λ y t h. let (s1, k, is1) = string_only y rest t (scalar_first y 34 rest t h) in g.none s1 t k;
-})
-string_stop w rest (stop.Bad left) is g = record {
-  front = 34 ∷ g.front;
-  byte = g.byte;
-  rest = g.rest;
-  parts = is ∙ ap (λ k. 34 ∷ k) g.parts;
-  count = g.count;
-  begins = string_begins g.front g.begins;
-  dead = λ y u t h. let (s1, k, is1) = string_only y (g.front ++ g.byte ∷ u) t (scalar_first y 34 (g.front ++ g.byte ∷ u) t h) in g.dead s1 u t k;
-}
-string_stop w rest stop.NoMemory is g = tt
+string_stop w rest e is h = stop_behind StringAt ScalarAt (λ s. value.Str s) 34 string_behind Anything w rest e is h
 
 -- numbers
 quote_no_number : (b : ℕ) → b ≡ 34 → BeginsNumber b → ⊥
@@ -218,29 +188,14 @@ number_found n w r f = record {
   only = λ y u t fits h. let (k, g, is) = number_read n (f.front ++ u) u (f.reads u fits) y t h in let (p, q) = f.only k u t fits g in (is ∙ ap (λ v. value.Int v) p, q);
 }
 
-number_begins : (rest : List ℕ) → Begins BeginsNoDigit NumberAt rest → Begins BeginsNoDigit ScalarAt rest
-number_begins rest b = record { value = value.Int b.value; more = b.more; reads = λ t h. ScalarAt.number b.value (b.reads t h) refl }
+number_view : (b : ℕ) → BeginsNumber b → IsViewAt NumberAt ScalarAt (λ n. value.Int n) b
+number_view b num = record {
+  to = λ n u t h. ScalarAt.number n h refl;
+  from = λ y m t h. number_only b y m t num (scalar_first y b m t h);
+}
 
 pub number_stop : (b : ℕ) (w after : List ℕ) (e : Stop) → w ≡ b ∷ after → BeginsNumber b → StoppedBy BeginsNoDigit NumberAt w e → StoppedBy BeginsNoDigit ScalarAt w e
-number_stop b w after stop.Short is num s = record {
-  begins = number_begins w s.begins;
-  none = λ y t h.
-      let (n, k, is1) = number_only b y after t num (scalar_first y b after t (subst (λ v. ScalarAt y v t) is h)) in
-      s.none n t (subst (λ v. NumberAt n v t) (sym is) k);
-}
-number_stop b w after (stop.Bad left) is num s = record {
-  front = s.front;
-  byte = s.byte;
-  rest = s.rest;
-  parts = s.parts;
-  count = s.count;
-  begins = number_begins s.front s.begins;
-  dead = λ y u t h.
-      let (k, e) = first_of b s.byte s.front s.rest after u (sym is ∙ s.parts) in
-      let (n, g, is1) = number_only b y k t num (scalar_first y b k t (subst (λ v. ScalarAt y v t) e h)) in
-      s.dead n u t (subst (λ v. NumberAt n v t) (sym e) g);
-}
-number_stop b w after stop.NoMemory is num s = tt
+number_stop b w after e is num h = stop_at NumberAt ScalarAt (λ n. value.Int n) b (number_view b num) BeginsNoDigit w after e is h
 
 -- what is read whatever stands behind it
 pub found_value : {X : Type 0} (R : X → List ℕ → List ℕ → Type 0) (x : X) (w r : List ℕ) → Found R x w r → FoundValue R x w r

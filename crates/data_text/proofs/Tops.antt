@@ -2,8 +2,8 @@
 use Rattle.std.proofs.Common.{◌≡◌, ℕ, zero, suc, ◌≤◌, ◌+◌, ◌-◌, ◌==◌, Bool, true, false, if◌then◌else◌, List, [], ◌∷◌, ◌++◌, length, take, refl, sym, ◌∙◌, ap, subst, inl, inr, append_assoc, append-nil, length-append, arith, Result, Err, MatchResult}
 use Rattle.std.proofs.lemmas.Bool.Decides.{nat_tests}
 use Rattle.msgpack_codec.specs.declared.value.Value.{Value}
-use Rattle.data_text.specs.declared.fault.Stop.{Stop}
-use Rattle.data_text.specs.declared.fault.Stop.TheVariants as stop
+use Rattle.msgpack_codec.specs.declared.stop.Stop.{Stop}
+use Rattle.msgpack_codec.specs.declared.stop.Stop.TheVariants as stop
 use Rattle.std.specs.Prelude.{IsUtf8}
 use Rattle.data_text.specs.declared.fault.DataError.{DataError}
 use Rattle.data_text.specs.declared.fault.DataError.TheVariants as error

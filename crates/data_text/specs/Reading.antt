@@ -1,8 +1,8 @@
 -- What the functions say that read a part from the front of the bytes.
 use Rattle.std.specs.Prelude.{◌≡◌, ℕ, ◌⊎◌, List, [], ◌∷◌, ◌++◌, ◌+◌, ◌-◌, ◌*◌, length, Bool, true, false, if◌then◌else◌, not, ◌&&◌, ◌||◌, ◌==◌, Some}
 use Rattle.std.specs.Char.{encode_utf8}
-use Rattle.data_text.specs.declared.fault.Stop.{Stop}
-use Rattle.data_text.specs.declared.fault.Stop.TheVariants as stop
+use Rattle.msgpack_codec.specs.declared.stop.Stop.{Stop}
+use Rattle.msgpack_codec.specs.declared.stop.Stop.TheVariants as stop
 use Rattle.data_text.specs.Lines.{CanGoOn}
 use Rattle.data_text.specs.Json.{Spells, BeginsNoDigit, behind_blanks, ValueAt, ElementAt, MemberAt, BracketsAt, RunAt, UnitAt, is_low, is_high, CodeAt, short_escape, is_digit, pairs_of}
 use Rattle.std.specs.Str.{bytes_eq}

@@ -3,7 +3,7 @@ ghost use Rattle.std.specs.Prelude.{◌≡◌, ◌<◌, MatchResult};
 ghost use Rattle.data_text.specs.Json.{is_blank, behind_blanks, DelimiterAt};
 ghost use Rattle.data_text.specs.Reading.{Found, Stopped, TokenAt, WordAt};
 
-use crate::fault::Stop;
+use msgpack_codec::Stop;
 
 fn is_blank(byte: u8) -> bool
     ensures { result ≡ is_blank byte }

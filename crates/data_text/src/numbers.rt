@@ -3,7 +3,7 @@ ghost use Rattle.std.specs.Prelude.{◌≡◌, ◌≤◌, ◌<◌, ◌^◌, ◌-
 ghost use Rattle.data_text.specs.Json.{is_digit, BeginsNoDigit, MagnitudeAt, NumberAt, minus};
 ghost use Rattle.data_text.specs.Reading.{FoundValue, StoppedBy, begins_number};
 
-use crate::fault::Stop;
+use msgpack_codec::Stop;
 
 /// The greatest magnitude of a negative number.
 const LEAST: u64 = 0x8000_0000_0000_0000;

@@ -7,9 +7,9 @@ ghost use Rattle.data_text.specs.Lines.{IsFault, newlines, line_at, last_line};
 ghost use Rattle.data_text.specs.declared.fault.DataError.TheVariants as error;
 
 use crate::blanks::skip_blanks;
-use crate::fault::{DataError, DataFault, Stop};
+use crate::fault::{DataError, DataFault};
 use crate::values::value;
-use msgpack_codec::Value;
+use msgpack_codec::{Stop, Value};
 use std::alloc::Global;
 
 /// The most bytes of a data text.

@@ -5,9 +5,9 @@ ghost use Rattle.data_text.specs.Json.{CharAt, StringAt, KeyAt, short_escape};
 ghost use Rattle.data_text.specs.Reading.{Found, Stopped, Marked, EscapeAt};
 
 use crate::blanks::token;
-use crate::fault::Stop;
 use crate::units::code;
 use bs_outside::Text;
+use msgpack_codec::Stop;
 use std::alloc::{AllocError, Global};
 
 /// What a byte behind a backslash stands for.

@@ -4,7 +4,7 @@ ghost use Rattle.data_text.specs.Json.{hex_value, DigitAt, CodeAt, is_high};
 ghost use Rattle.data_text.specs.Reading.{Found, Stopped, HalfAt, least_first, most_first, least_second, most_second};
 
 use crate::blanks::word;
-use crate::fault::Stop;
+use msgpack_codec::Stop;
 
 /// The value of a hexadecimal digit, and 16 of any other byte.
 fn hex_value(byte: u8) -> u32

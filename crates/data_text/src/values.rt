@@ -4,13 +4,12 @@ ghost use Rattle.data_text.specs.Json.{ValueAt, ElementAt, RunAt, ScalarAt, Begi
 ghost use Rattle.data_text.specs.Reading.{Found, FoundValue, Stopped, StoppedBy, Marked, ListAt, MapAt, EntriesAt, BeginsNoOther};
 
 use crate::blanks::{delimiter, skip_blanks, word};
-use crate::fault::Stop;
 use crate::numbers::{begins_number, number};
 use crate::pairs::pairs_of;
 use crate::strings::{key, string};
 use bs_outside::{Items, Text};
 use indexmap::IndexMap;
-use msgpack_codec::Value;
+use msgpack_codec::{Stop, Value};
 use std::alloc::Global;
 
 /// Reads a value, in which at most `levels` lists and maps stand in one another.

@@ -1,11 +1,11 @@
-//! Tests.
+//! Tests of the crates of formats: compiled sequences and their dumps, MessagePack values, JSON texts.
 #![tactic(auto)]
 
 #[cfg(test)]
-mod data_text;
+mod dumps;
 #[cfg(test)]
-mod iseq_dump;
+mod json;
 #[cfg(test)]
-mod iseq_types;
+mod messages;
 #[cfg(test)]
-mod msgpack_codec;
+mod sound_bodies;

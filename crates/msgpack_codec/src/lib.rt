@@ -18,5 +18,5 @@ mod value;
 pub use decoding::decode;
 pub use encoding::encode;
 pub use reader::Reader;
-pub use stop::Unread;
+pub use stop::{Stop, Unread};
 pub use value::{DataKind, Value};

@@ -1,4 +1,4 @@
-//! Why bytes have no value.
+//! Why bytes have no value, and why a part of them has none.
 use std::alloc::{AllocError, AllocFailed};
 
 /// Why bytes have no value.
@@ -18,13 +18,14 @@ pub enum Unread {
     NoMemory,
 }
 
-/// Why a reading of a part stopped.
+/// Why a reading of a part from the front of bytes stopped.
 #[derive(Clone, Copy)]
-pub(crate) enum Stop {
+pub enum Stop {
     /// The bytes end before the part does.
     Short,
     /// So many bytes are left from the first on that cannot stand there.
     Bad(usize),
+    /// There was no memory for what was read.
     NoMemory,
 }
 

@@ -1,14 +1,16 @@
 //! Unsound bodies, each beside its mended twin, and searches in a catch table.
-ghost use Rattle.std.specs.Prelude.{◌↔◌, IsTrue};
+ghost use Rattle.std.specs.Prelude.{◌≡◌, ◌<◌, ◌↔◌, IsTrue};
 ghost use Rattle.iseq_types.specs.Index.{AreIndexRows, IsIndexRow};
 
-use super::*;
-use bs_outside::{Items, Text, Texts};
+use bs_outside::{Bytes, Image, Steps};
+use iseq_dump::read_body;
+use iseq_types::{CatchKind, IndexRow, SeqKind, Sequence, check_body, find_catch};
 use std::alloc::{AllocError, Global};
+use std::marker::Brand;
+use std::sync::ledger::{Blank, Ledger};
 use std::test::Fail;
 
-/// What a test's body is spelled by, a word each: an instruction or another part of the body, and
-/// its numbers behind points.
+/// A word of the text that spells a body here: a name, and numbers behind points.
 #[derive(Drop)]
 struct Word<'a> {
     name: &'a str,
@@ -28,128 +30,153 @@ fn read_word(text: &str) -> Word<'_> {
     Word { name, numbers }
 }
 
-fn empty(alloc: Global) -> Result<Text, AllocError> {
-    Text::new(alloc, b"")
+/// The name of a word, the bytes that it begins with in a dump, and what follows of each of its
+/// numbers: the number (n), a list with so many empty texts (t), or a list with the place before it
+/// and an empty one for 0 (s).
+type Spelling = (&'static str, &'static [u8], &'static [u8]);
+
+const ENTRIES: &[Spelling] = &[("entry", b"", b"n")];
+
+const CATCH_ROWS: &[Spelling] = &[
+    ("rescue", b"\x00", b"nnnnn"),
+    ("ensure", b"\x01", b"nnnnn"),
+    ("break", b"\x02", b"nnnnn"),
+    ("next", b"\x03", b"nnnnn"),
+];
+
+/// Each in line 1, and with an empty name where it has one.
+const INSTRUCTIONS: &[Spelling] = &[
+    ("nop", &[1, 0], b""),
+    ("pop", &[1, 1], b""),
+    ("dup", &[1, 2], b""),
+    ("swap", &[1, 3], b""),
+    ("topn", &[1, 4], b"n"),
+    ("setn", &[1, 5], b"n"),
+    ("adjust", &[1, 6], b"n"),
+    ("nil", &[1, 7], b""),
+    ("get", &[1, 11], b"nn"),
+    ("set", &[1, 12], b"nn"),
+    ("path", &[1, 18], b"nt"),
+    ("array", &[1, 19], b"ns"),
+    ("hash", &[1, 20], b"n"),
+    ("range", &[1, 21], b"n"),
+    ("send", &[1, 25, 0], b"nsnn"),
+    ("super", &[1, 26], b"nsnn"),
+    ("yield", &[1, 27], b"ns"),
+    ("def", &[1, 28, 0], b"nn"),
+    ("class", &[1, 29, 0], b"nn"),
+    ("jump", &[1, 31], b"n"),
+    ("if", &[1, 32], b"n"),
+    ("unless", &[1, 33], b"n"),
+    ("ifnil", &[1, 34], b"n"),
+    ("throw", &[1, 35], b"n"),
+    ("leave", &[1, 36], b""),
+    ("expand", &[1, 37], b"n"),
+];
+
+/// Puts a number in LEB128.
+fn put_number(out: &mut Vec<u8>, number: u64) -> Result<(), AllocError> {
+    let mut left = number;
+    while left >= 128 {
+        out.push((left % 128) as u8 + 128)?;
+        left /= 128;
+    }
+    out.push(left as u8)?;
+    Ok(())
 }
 
-fn texts(alloc: Global, count: u64) -> Result<Texts, AllocError> {
-    let mut texts = Texts::new(alloc);
+/// Puts a list with so many empty texts.
+fn put_texts(out: &mut Vec<u8>, count: u64) -> Result<(), AllocError> {
+    put_number(out, count)?;
     for _ in 0..count {
-        texts.push(empty(alloc)?)?;
-    }
-    Ok(texts)
-}
-
-/// The place before this one as a splat, or none for 0.
-fn splat(alloc: Global, number: u64) -> Result<Items<u64>, AllocError> {
-    let mut splats = Items::new(alloc);
-    if number > 0 {
-        splats.push(number - 1)?;
-    }
-    Ok(splats)
-}
-
-/// An instruction of one word alone, or with one number.
-fn plain(word: &Word) -> Option<Instr> {
-    let [a, b, ..] = word.numbers;
-    Some(match word.name {
-        "nop" => Instr::Nop,
-        "pop" => Instr::Pop,
-        "dup" => Instr::Dup,
-        "swap" => Instr::Swap,
-        "topn" => Instr::TopN(a),
-        "setn" => Instr::SetN(a),
-        "adjust" => Instr::AdjustStack(a),
-        "nil" => Instr::PutNil,
-        "get" => Instr::GetLocal(a, b),
-        "set" => Instr::SetLocal(a, b),
-        "hash" => Instr::NewHash(a),
-        "range" => Instr::NewRange(a),
-        "concat" => Instr::ConcatStrings(a),
-        "jump" => Instr::Jump(a),
-        "if" => Instr::BranchIf(a),
-        "unless" => Instr::BranchUnless(a),
-        "ifnil" => Instr::BranchNil(a),
-        "throw" => Instr::Throw(a),
-        "leave" => Instr::Leave,
-        "expand" => Instr::ExpandArray(a),
-        _ => return None,
-    })
-}
-
-/// One with texts or splats.
-fn compound(alloc: Global, word: &Word) -> Result<Option<Instr>, AllocError> {
-    let [a, b, c, d, _] = word.numbers;
-    Ok(Some(match word.name {
-        "path" => Instr::OptGetConstantPath(a, texts(alloc, b)?),
-        "array" => Instr::NewArray(a, splat(alloc, b)?),
-        "send" => Instr::Send(empty(alloc)?, a, splat(alloc, b)?, c, d),
-        "super" => Instr::InvokeSuper(a, splat(alloc, b)?, c, d),
-        "yield" => Instr::InvokeBlock(a, splat(alloc, b)?),
-        "def" => Instr::DefineMethod(empty(alloc)?, a, b),
-        "class" => Instr::DefineClass(empty(alloc)?, a, b),
-        _ => return Ok(None),
-    }))
-}
-
-fn catch_kind(name: &str) -> Option<CatchKind> {
-    match name {
-        "rescue" => Some(CatchKind::Rescue),
-        "ensure" => Some(CatchKind::Ensure),
-        "break" => Some(CatchKind::Break),
-        "next" => Some(CatchKind::Next),
-        _ => None,
-    }
-}
-
-/// Puts what a word spells into the body.
-fn put(alloc: Global, seq: &mut Sequence, word: &Word) -> Result<(), AllocError> {
-    let [from, to, cont, sp, row_seq] = word.numbers;
-    if let Some(kind) = catch_kind(word.name) {
-        return seq.rows.push(CatchRow {
-            kind,
-            from,
-            to,
-            cont,
-            sp,
-            seq: row_seq,
-        });
-    }
-    match word.name {
-        "locals" => seq.locals = texts(alloc, from)?,
-        "required" => seq.required = from,
-        "entry" => seq.entries.push(from)?,
-        "rest" => seq.rest = true,
-        "block" => seq.block = true,
-        _ => {
-            let instr = match plain(word) {
-                Some(instr) => Some(instr),
-                None => compound(alloc, word)?,
-            };
-            if let Some(instr) = instr {
-                seq.code.push(Line { line: 1, instr })?;
-            }
-        }
+        out.push(0)?;
     }
     Ok(())
 }
 
-fn body(alloc: Global, text: &str) -> Result<Sequence, AllocError> {
-    let mut seq = Sequence {
-        name: empty(alloc)?,
-        first_line: 1,
-        locals: Items::new(alloc),
-        required: 0,
-        entries: Items::new(alloc),
-        rest: false,
-        block: false,
-        rows: Items::new(alloc),
-        code: Items::new(alloc),
-    };
-    for part in text.split_whitespace() {
-        put(alloc, &mut seq, &read_word(part))?;
+fn put_operand(out: &mut Vec<u8>, form: u8, number: u64) -> Result<(), AllocError> {
+    if form == b't' {
+        return put_texts(out, number);
     }
-    Ok(seq)
+    if form == b's' && number > 0 {
+        out.push(1)?;
+        return put_number(out, number - 1);
+    }
+    put_number(out, number)
+}
+
+/// Puts the word, and answers whether it has one of the spellings.
+fn put_word(out: &mut Vec<u8>, spellings: &[Spelling], word: &Word) -> Result<bool, AllocError> {
+    for (name, front, forms) in spellings {
+        if *name == word.name {
+            out.extend_from_slice(front)?;
+            for (form, number) in forms.iter().zip(&word.numbers) {
+                put_operand(out, *form, *number)?;
+            }
+            return Ok(true);
+        }
+    }
+    Ok(false)
+}
+
+/// Puts a list of the words of the text that have one of the spellings.
+fn put_list(
+    alloc: Global,
+    out: &mut Vec<u8>,
+    spellings: &[Spelling],
+    text: &str,
+) -> Result<(), AllocError> {
+    let mut list = Vec::new(alloc);
+    let mut count: u64 = 0;
+    for part in text.split_whitespace() {
+        if put_word(&mut list, spellings, &read_word(part))? {
+            count = count.saturating_add(1);
+        }
+    }
+    put_number(out, count)?;
+    out.append(&mut list)
+}
+
+/// The number of the word of this name, or 0.
+fn number_of(text: &str, name: &str) -> u64 {
+    for part in text.split_whitespace() {
+        let word = read_word(part);
+        if word.name == name {
+            return word.numbers[0];
+        }
+    }
+    0
+}
+
+fn body_bytes(alloc: Global, text: &str) -> Result<Bytes, AllocError> {
+    // no name, and line 1
+    let mut out = Vec::from_slice(alloc, &[0, 1])?;
+    put_texts(&mut out, number_of(text, "locals"))?;
+    put_number(&mut out, number_of(text, "required"))?;
+    put_list(alloc, &mut out, ENTRIES, text)?;
+    put_number(&mut out, number_of(text, "flags"))?;
+    put_list(alloc, &mut out, CATCH_ROWS, text)?;
+    put_list(alloc, &mut out, INSTRUCTIONS, text)?;
+    Ok(Bytes::from_vec(out))
+}
+
+fn read_all<L: Ledger>(
+    alloc: Global,
+    blank: Blank,
+    bytes: Bytes,
+) -> Result<Option<Sequence>, AllocError>
+    requires name { blank.name ≡ L.name }
+    requires parts { blank.parts ≡ L.parts }
+    requires some { 0 < L.parts }
+{
+    let mut steps = Steps::<L>::new(blank);
+    let image = Image::new(bytes);
+    read_body(alloc, &image, 0, image.len(), &mut steps)
+}
+
+/// The body that the text spells, if it spells one.
+fn body(alloc: Global, text: &str) -> Result<Option<Sequence>, AllocError> {
+    read_all::<Brand>(alloc, Blank::new(1), body_bytes(alloc, text)?)
 }
 
 /// The index of all bodies here.
@@ -232,12 +259,15 @@ fn are_index_rows(rows: &[IndexRow]) -> bool
     rows.len() > 0
 }
 
-fn is_sound(alloc: Global, id: usize, text: &str) -> Result<bool, AllocError> {
+/// Whether the text spells a sound body of this sequence, and nothing where it spells none.
+fn soundness(alloc: Global, id: usize, text: &str) -> Result<Option<bool>, AllocError> {
+    let Some(seq) = body(alloc, text)? else {
+        return Ok(None);
+    };
     if !are_index_rows(&ROWS) || id >= ROWS.len() {
-        return Ok(false);
+        return Ok(None);
     }
-    let seq = body(alloc, text)?;
-    Ok(check_body(alloc, &seq, &ROWS, id)?.is_some())
+    Ok(Some(check_body(alloc, &seq, &ROWS, id)?.is_some()))
 }
 
 /// The number of a sequence, a body of it that is not sound, and its mended twin.
@@ -393,12 +423,6 @@ const PAIRS: &[(usize, &str, &str)] = &[
         "locals.3 ensure.0.1.1.0.3 nil leave",
         "locals.3 ensure.0.1.1.0.4 nil leave",
     ),
-    (
-        1,
-        "locals.3 break.0.1.1.0.1 nil leave",
-        "locals.3 break.0.1.1.0.0 nil leave",
-    ),
-    (0, "next.0.1.1.0.6 nil leave", "next.0.1.1.0.0 nil leave"),
     // Splats are below the count.
     (0, "nil array.1.2 leave", "nil array.1.1 leave"),
     (0, "nil send.0.1 leave", "nil nil send.1.1 leave"),
@@ -425,8 +449,8 @@ const PAIRS: &[(usize, &str, &str)] = &[
     ),
     (
         1,
-        "locals.3 required.18446744073709551615 rest block nil leave",
-        "locals.3 required.1 rest block nil leave",
+        "locals.3 required.18446744073709551615 flags.3 nil leave",
+        "locals.3 required.1 flags.3 nil leave",
     ),
     (
         1,
@@ -435,13 +459,13 @@ const PAIRS: &[(usize, &str, &str)] = &[
     ),
     (
         1,
-        "locals.3 required.3 rest nil leave",
+        "locals.3 required.3 flags.1 nil leave",
         "locals.3 required.3 entry.0 nil leave",
     ),
     (
         1,
-        "locals.3 required.3 block nil leave",
-        "locals.3 required.2 block nil leave",
+        "locals.3 required.3 flags.2 nil leave",
+        "locals.3 required.2 flags.2 nil leave",
     ),
     // Throws stand where they may.
     (0, "nil throw.8", "nil throw.5"),
@@ -464,11 +488,27 @@ const PAIRS: &[(usize, &str, &str)] = &[
     ),
 ];
 
+/// What a body's soundness is where its break or next row names a sequence, which no dump can, and
+/// where it names none.
+const ROWS_WITH_NO_SEQUENCE: &[(usize, &str, Option<bool>)] = &[
+    (1, "locals.3 break.0.1.1.0.1 nil leave", None),
+    (1, "locals.3 break.0.1.1.0.0 nil leave", Some(true)),
+    (0, "next.0.1.1.0.6 nil leave", None),
+    (0, "next.0.1.1.0.0 nil leave", Some(true)),
+];
+
 #[test]
 fn unsound_bodies_are_refused_and_their_twins_accepted(rt: HostRuntime) -> Result<(), Fail> {
     for (id, unsound, sound) in PAIRS {
-        assert!(rt; !is_sound(rt.alloc(), *id, unsound)?, "accepted: {unsound}");
-        assert!(rt; is_sound(rt.alloc(), *id, sound)?, "refused: {sound}");
+        assert_eq!(rt;
+            soundness(rt.alloc(), *id, unsound)?,
+            Some(false),
+            "{unsound}"
+        );
+        assert_eq!(rt; soundness(rt.alloc(), *id, sound)?, Some(true), "{sound}");
+    }
+    for (id, text, found) in ROWS_WITH_NO_SEQUENCE {
+        assert_eq!(rt; soundness(rt.alloc(), *id, text)?, *found, "{text}");
     }
     Ok(())
 }
@@ -479,6 +519,7 @@ fn the_first_row_that_holds_the_place_is_found(rt: HostRuntime) -> Result<(), Fa
         rt.alloc(),
         "ensure.0.4.4.0.1 rescue.1.3.4.0.2 break.1.2.4.0 rescue.0.5.5.0.3",
     )?;
+    let seq = seq.ok_or("the text spells a body")?;
     let rows = [
         (0, 0, CatchKind::Ensure, Some(0)),
         (0, 4, CatchKind::Ensure, None),

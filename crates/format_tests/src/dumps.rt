@@ -2,13 +2,13 @@
 ghost use Rattle.std.specs.Prelude.{◌≡◌, ◌<◌, IfOk, IfSome};
 ghost use Rattle.iseq_dump.specs.Dump.{CanBeDumped};
 
-use super::*;
 use bs_outside::{Bytes, Image, Steps};
+use iseq_dump::{dump, laws, load_all, read_body, read_head};
 use iseq_types::{Instr, Literal, SeqKind, Unit};
 use std::alloc::{AllocError, Global};
 use std::marker::Brand;
 use std::sync::ledger::{Blank, Ledger};
-use std::test::*;
+use std::test::Fail;
 
 /// The dump of the empty file `/e.rb`.
 const EMPTY: [u8; 56] = [
