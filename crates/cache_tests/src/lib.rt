@@ -1,7 +1,7 @@
-//! Tests.
+//! Tests of the compile cache: its names and keys, and its calls.
 #![tactic(auto)]
 
 #[cfg(test)]
-mod cache_key;
-#[cfg(test)]
 mod compile_cache;
+#[cfg(test)]
+mod names_and_keys;

@@ -1,7 +1,11 @@
-//! Tests.
+//! Tests of the outside: paths, and trees, streams and shelves in memory.
 #![tactic(auto)]
 
 #[cfg(test)]
-mod mem_outside;
+mod paths;
 #[cfg(test)]
-mod mem_shelf;
+mod shelves;
+#[cfg(test)]
+mod streams;
+#[cfg(test)]
+mod trees;
