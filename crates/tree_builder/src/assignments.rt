@@ -5,7 +5,7 @@ ghost use Rattle.ruby_tree.specs.Tree.{Tree, Trees, Goal, at, assign, assign_all
 ghost use Rattle.ruby_tree.specs.SourcePositions.{position_of};
 ghost use Rattle.tree_builder.specs.Subtrees.{IsNamed, IsTarget, AreTargets, Holds, HoldsAll};
 
-use super::kept::{boxed, deeper, grown};
+use super::kept::{boxed, grown, three_boxes, two_boxes};
 use super::{Subtree, Subtrees};
 use bs_outside::NoMemory;
 use ruby_tree::{Assignment, Kind, Name, SourcePosition, Target};
@@ -45,11 +45,9 @@ pub fn assign_attribute(
 ) -> Result<Subtree, NoMemory>
     ensures made { (T : Texts) (a v : Tree) (m : Bytes) → Holds T receiver a → Holds T value v → IsNamed T setter m → IfOk result (λ part. Holds T part (at (position_of position) (assign_attribute a v m))) }
 {
-    let depth = deeper(receiver.depth, value.depth);
-    let receiver = boxed(alloc, receiver)?;
-    let value = boxed(alloc, value)?;
-    let kind = Assignment::Attribute(receiver, value, setter);
-    Ok(grown(position, Kind::Assignment(kind), depth))
+    let two = two_boxes(alloc, receiver, value)?;
+    let kind = Assignment::Attribute(two.first, two.second, setter);
+    Ok(grown(position, Kind::Assignment(kind), two.depth))
 }
 
 /// `a[i] = v`
@@ -62,12 +60,9 @@ pub fn assign_index(
 ) -> Result<Subtree, NoMemory>
     ensures made { (T : Texts) (a i v : Tree) → Holds T receiver a → Holds T index i → Holds T value v → IfOk result (λ part. Holds T part (at (position_of position) (assign_index a i v))) }
 {
-    let depth = deeper(receiver.depth, deeper(index.depth, value.depth));
-    let receiver = boxed(alloc, receiver)?;
-    let index = boxed(alloc, index)?;
-    let value = boxed(alloc, value)?;
-    let kind = Assignment::Index(receiver, index, value);
-    Ok(grown(position, Kind::Assignment(kind), depth))
+    let three = three_boxes(alloc, receiver, index, value)?;
+    let kind = Assignment::Index(three.first, three.second, three.third);
+    Ok(grown(position, Kind::Assignment(kind), three.depth))
 }
 
 /// `a.m op= v`: the receiver, `m`, the value, the operator, `m=` and the line of the operator.
@@ -84,11 +79,9 @@ pub fn operate_attribute(
 ) -> Result<Subtree, NoMemory>
     ensures made { (T : Texts) (a : Tree) (x : Bytes) (v : Tree) (o m : Bytes) → Holds T receiver a → IsNamed T name x → Holds T value v → IsNamed T operator o → IsNamed T setter m → IfOk result (λ part. Holds T part (at (position_of position) (operate_attribute a x v o m line))) }
 {
-    let depth = deeper(receiver.depth, value.depth);
-    let receiver = boxed(alloc, receiver)?;
-    let value = boxed(alloc, value)?;
-    let kind = Assignment::AttributeOperator(receiver, name, value, operator, setter, line);
-    Ok(grown(position, Kind::Assignment(kind), depth))
+    let two = two_boxes(alloc, receiver, value)?;
+    let kind = Assignment::AttributeOperator(two.first, name, two.second, operator, setter, line);
+    Ok(grown(position, Kind::Assignment(kind), two.depth))
 }
 
 /// `a.m ||= v`
@@ -102,11 +95,9 @@ pub fn or_attribute(
 ) -> Result<Subtree, NoMemory>
     ensures made { (T : Texts) (a : Tree) (x : Bytes) (v : Tree) (m : Bytes) → Holds T receiver a → IsNamed T name x → Holds T value v → IsNamed T setter m → IfOk result (λ part. Holds T part (at (position_of position) (or_attribute a x v m))) }
 {
-    let depth = deeper(receiver.depth, value.depth);
-    let receiver = boxed(alloc, receiver)?;
-    let value = boxed(alloc, value)?;
-    let kind = Assignment::AttributeOr(receiver, name, value, setter);
-    Ok(grown(position, Kind::Assignment(kind), depth))
+    let two = two_boxes(alloc, receiver, value)?;
+    let kind = Assignment::AttributeOr(two.first, name, two.second, setter);
+    Ok(grown(position, Kind::Assignment(kind), two.depth))
 }
 
 /// `a.m &&= v`
@@ -120,11 +111,9 @@ pub fn and_attribute(
 ) -> Result<Subtree, NoMemory>
     ensures made { (T : Texts) (a : Tree) (x : Bytes) (v : Tree) (m : Bytes) → Holds T receiver a → IsNamed T name x → Holds T value v → IsNamed T setter m → IfOk result (λ part. Holds T part (at (position_of position) (and_attribute a x v m))) }
 {
-    let depth = deeper(receiver.depth, value.depth);
-    let receiver = boxed(alloc, receiver)?;
-    let value = boxed(alloc, value)?;
-    let kind = Assignment::AttributeAnd(receiver, name, value, setter);
-    Ok(grown(position, Kind::Assignment(kind), depth))
+    let two = two_boxes(alloc, receiver, value)?;
+    let kind = Assignment::AttributeAnd(two.first, name, two.second, setter);
+    Ok(grown(position, Kind::Assignment(kind), two.depth))
 }
 
 /// `a[i] op= v`: the line is that of the operator.
@@ -139,12 +128,9 @@ pub fn operate_index(
 ) -> Result<Subtree, NoMemory>
     ensures made { (T : Texts) (a i v : Tree) (o : Bytes) → Holds T receiver a → Holds T index i → Holds T value v → IsNamed T operator o → IfOk result (λ part. Holds T part (at (position_of position) (operate_index a i v o line))) }
 {
-    let depth = deeper(receiver.depth, deeper(index.depth, value.depth));
-    let receiver = boxed(alloc, receiver)?;
-    let index = boxed(alloc, index)?;
-    let value = boxed(alloc, value)?;
-    let kind = Assignment::IndexOperator(receiver, index, value, operator, line);
-    Ok(grown(position, Kind::Assignment(kind), depth))
+    let three = three_boxes(alloc, receiver, index, value)?;
+    let kind = Assignment::IndexOperator(three.first, three.second, three.third, operator, line);
+    Ok(grown(position, Kind::Assignment(kind), three.depth))
 }
 
 /// `a[i] ||= v`
@@ -157,12 +143,9 @@ pub fn or_index(
 ) -> Result<Subtree, NoMemory>
     ensures made { (T : Texts) (a i v : Tree) → Holds T receiver a → Holds T index i → Holds T value v → IfOk result (λ part. Holds T part (at (position_of position) (or_index a i v))) }
 {
-    let depth = deeper(receiver.depth, deeper(index.depth, value.depth));
-    let receiver = boxed(alloc, receiver)?;
-    let index = boxed(alloc, index)?;
-    let value = boxed(alloc, value)?;
-    let kind = Assignment::IndexOr(receiver, index, value);
-    Ok(grown(position, Kind::Assignment(kind), depth))
+    let three = three_boxes(alloc, receiver, index, value)?;
+    let kind = Assignment::IndexOr(three.first, three.second, three.third);
+    Ok(grown(position, Kind::Assignment(kind), three.depth))
 }
 
 /// `a[i] &&= v`
@@ -175,10 +158,7 @@ pub fn and_index(
 ) -> Result<Subtree, NoMemory>
     ensures made { (T : Texts) (a i v : Tree) → Holds T receiver a → Holds T index i → Holds T value v → IfOk result (λ part. Holds T part (at (position_of position) (and_index a i v))) }
 {
-    let depth = deeper(receiver.depth, deeper(index.depth, value.depth));
-    let receiver = boxed(alloc, receiver)?;
-    let index = boxed(alloc, index)?;
-    let value = boxed(alloc, value)?;
-    let kind = Assignment::IndexAnd(receiver, index, value);
-    Ok(grown(position, Kind::Assignment(kind), depth))
+    let three = three_boxes(alloc, receiver, index, value)?;
+    let kind = Assignment::IndexAnd(three.first, three.second, three.third);
+    Ok(grown(position, Kind::Assignment(kind), three.depth))
 }

@@ -290,23 +290,10 @@ fn longer_path(path: Subtree, name: Name) -> Result<Subtree, NoMemory>
     requires { is_path (out-Node path.node).kind ≡ true }
     ensures { (T : Texts) (w : Toks) (a : Tree) (x : Bytes) → Holds T path a → depth a ≤ 200 → IsNamed T name x → IfOk result (λ part. Holds T part (path_with w a x)) }
 {
-    let Subtree { node, depth } = path;
-    let Node {
-        first,
-        line,
-        place,
-        kind,
-    } = node;
-    let Kind::Collection(Collection::ConstantPath(value, top, mut names)) = kind else {
-        unreachable!()
-    };
-    names.push(name)?;
-    let kind = Kind::Collection(Collection::ConstantPath(value, top, names));
-    let node = Node {
-        first,
-        line,
-        place,
-        kind,
-    };
-    Ok(Subtree { node, depth })
+    let mut path = path;
+    match &mut path.node.kind {
+        Kind::Collection(Collection::ConstantPath(_, _, names)) => names.push(name)?,
+        _ => unreachable!(),
+    }
+    Ok(path)
 }

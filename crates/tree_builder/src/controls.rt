@@ -5,7 +5,7 @@ ghost use Rattle.ruby_tree.specs.Tree.{Tree, Trees, Other, Whens, at, statements
 ghost use Rattle.ruby_tree.specs.SourcePositions.{position_of};
 ghost use Rattle.tree_builder.specs.Subtrees.{Holds, HoldsAll, HoldsOther, HoldsWhens};
 
-use super::kept::{boxed, deeper, grown};
+use super::kept::{boxed, deeper, grown, two_boxes};
 use super::{ElseSubtree, Subtree, Subtrees, WhenSubtrees};
 use bs_outside::NoMemory;
 use ruby_tree::{Control, Exit, Kind, SourcePosition};
@@ -29,11 +29,9 @@ pub fn both(
 ) -> Result<Subtree, NoMemory>
     ensures made { (T : Texts) (a b : Tree) → Holds T left a → Holds T right b → IfOk result (λ part. Holds T part (at (position_of position) (both a b))) }
 {
-    let depth = deeper(left.depth, right.depth);
-    let left = boxed(alloc, left)?;
-    let right = boxed(alloc, right)?;
-    let kind = Control::And(left, right);
-    Ok(grown(position, Kind::Control(kind), depth))
+    let two = two_boxes(alloc, left, right)?;
+    let kind = Control::And(two.first, two.second);
+    Ok(grown(position, Kind::Control(kind), two.depth))
 }
 
 /// `a || b`
@@ -45,11 +43,9 @@ pub fn either(
 ) -> Result<Subtree, NoMemory>
     ensures made { (T : Texts) (a b : Tree) → Holds T left a → Holds T right b → IfOk result (λ part. Holds T part (at (position_of position) (either a b))) }
 {
-    let depth = deeper(left.depth, right.depth);
-    let left = boxed(alloc, left)?;
-    let right = boxed(alloc, right)?;
-    let kind = Control::Or(left, right);
-    Ok(grown(position, Kind::Control(kind), depth))
+    let two = two_boxes(alloc, left, right)?;
+    let kind = Control::Or(two.first, two.second);
+    Ok(grown(position, Kind::Control(kind), two.depth))
 }
 
 /// `!a`
@@ -72,10 +68,9 @@ pub fn if_else(
 ) -> Result<Subtree, NoMemory>
     ensures made { (T : Texts) (c a : Tree) (b : Other) → Holds T condition c → Holds T chosen a → HoldsOther T other b → IfOk result (λ part. Holds T part (at (position_of position) (if_else c a b))) }
 {
-    let depth = deeper(condition.depth, deeper(chosen.depth, other.depth));
-    let condition = boxed(alloc, condition)?;
-    let chosen = boxed(alloc, chosen)?;
-    let kind = Control::If(condition, chosen, other.node);
+    let two = two_boxes(alloc, condition, chosen)?;
+    let depth = deeper(two.depth, other.depth);
+    let kind = Control::If(two.first, two.second, other.node);
     Ok(grown(position, Kind::Control(kind), depth))
 }
 
@@ -90,11 +85,9 @@ pub fn while_loop(
 ) -> Result<Subtree, NoMemory>
     ensures made { (T : Texts) (a c : Tree) → Holds T body a → Holds T condition c → IfOk result (λ part. Holds T part (at (position_of position) (while_loop a c until body_first))) }
 {
-    let depth = deeper(body.depth, condition.depth);
-    let body = boxed(alloc, body)?;
-    let condition = boxed(alloc, condition)?;
-    let kind = Control::While(body, condition, until, body_first);
-    Ok(grown(position, Kind::Control(kind), depth))
+    let two = two_boxes(alloc, body, condition)?;
+    let kind = Control::While(two.first, two.second, until, body_first);
+    Ok(grown(position, Kind::Control(kind), two.depth))
 }
 
 /// A `case` with a value.

@@ -5,7 +5,7 @@ ghost use Rattle.ruby_tree.specs.Tree.{Tree, Other, Rescues, Params, at, rescue,
 ghost use Rattle.ruby_tree.specs.SourcePositions.{position_of};
 ghost use Rattle.tree_builder.specs.Subtrees.{IsNamed, Holds, HoldsOther, HoldsRescues, HoldsParams};
 
-use super::kept::{boxed, deeper, grown};
+use super::kept::{boxed, deeper, grown, two_boxes};
 use super::{ElseSubtree, ParamSubtrees, RescueSubtrees, Subtree};
 use bs_outside::NoMemory;
 use ruby_tree::{Definition, Handler, Kind, Name, SourcePosition};
@@ -21,10 +21,9 @@ pub fn rescue(
 ) -> Result<Subtree, NoMemory>
     ensures made { (T : Texts) (a : Tree) (e : Other) (c : Tree) → Holds T tried a → HoldsOther T other e → Holds T clauses c → IfOk result (λ part. Holds T part (at (position_of position) (rescue a e c))) }
 {
-    let depth = deeper(tried.depth, deeper(other.depth, clauses.depth));
-    let tried = boxed(alloc, tried)?;
-    let clauses = boxed(alloc, clauses)?;
-    let kind = Handler::Rescue(tried, other.node, clauses);
+    let two = two_boxes(alloc, tried, clauses)?;
+    let depth = deeper(two.depth, other.depth);
+    let kind = Handler::Rescue(two.first, other.node, two.second);
     Ok(grown(position, Kind::Handler(kind), depth))
 }
 
@@ -37,11 +36,9 @@ pub fn ensure(
 ) -> Result<Subtree, NoMemory>
     ensures made { (T : Texts) (a c : Tree) → Holds T tried a → Holds T last c → IfOk result (λ part. Holds T part (at (position_of position) (ensure a c))) }
 {
-    let depth = deeper(tried.depth, last.depth);
-    let tried = boxed(alloc, tried)?;
-    let last = boxed(alloc, last)?;
-    let kind = Handler::Ensure(tried, last);
-    Ok(grown(position, Kind::Handler(kind), depth))
+    let two = two_boxes(alloc, tried, last)?;
+    let kind = Handler::Ensure(two.first, two.second);
+    Ok(grown(position, Kind::Handler(kind), two.depth))
 }
 
 /// The clauses of a `rescue`.

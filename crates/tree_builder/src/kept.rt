@@ -54,6 +54,63 @@ pub fn boxed(alloc: Global, part: Subtree) -> Result<Box<Node>, NoMemory>
     Ok(Box::new(alloc, part.node)?)
 }
 
+// Two nodes in boxes.
+#[derive(Drop)]
+pub struct TwoBoxes {
+    pub first: Box<Node>,
+    pub second: Box<Node>,
+    // How deep the deeper one is.
+    pub depth: u64,
+}
+
+pub fn two_boxes(alloc: Global, first: Subtree, second: Subtree) -> Result<TwoBoxes, NoMemory>
+    ensures first { IfOk result (λ two. (T : Texts) (t : Tree) → Holds T first t → IsPart T two.first.value first.depth t) }
+    ensures second { IfOk result (λ two. (T : Texts) (t : Tree) → Holds T second t → IsPart T two.second.value second.depth t) }
+    ensures depth { IfOk result (λ two. two.depth ≡ max first.depth second.depth) }
+{
+    let depth = deeper(first.depth, second.depth);
+    let first = boxed(alloc, first)?;
+    let second = boxed(alloc, second)?;
+    Ok(TwoBoxes {
+        first,
+        second,
+        depth,
+    })
+}
+
+// Three nodes in boxes.
+#[derive(Drop)]
+pub struct ThreeBoxes {
+    pub first: Box<Node>,
+    pub second: Box<Node>,
+    pub third: Box<Node>,
+    // How deep the deepest one is.
+    pub depth: u64,
+}
+
+pub fn three_boxes(
+    alloc: Global,
+    first: Subtree,
+    second: Subtree,
+    third: Subtree,
+) -> Result<ThreeBoxes, NoMemory>
+    ensures first { IfOk result (λ three. (T : Texts) (t : Tree) → Holds T first t → IsPart T three.first.value first.depth t) }
+    ensures second { IfOk result (λ three. (T : Texts) (t : Tree) → Holds T second t → IsPart T three.second.value second.depth t) }
+    ensures third { IfOk result (λ three. (T : Texts) (t : Tree) → Holds T third t → IsPart T three.third.value third.depth t) }
+    ensures depth { IfOk result (λ three. three.depth ≡ max first.depth (max second.depth third.depth)) }
+{
+    let depth = deeper(first.depth, deeper(second.depth, third.depth));
+    let first = boxed(alloc, first)?;
+    let second = boxed(alloc, second)?;
+    let third = boxed(alloc, third)?;
+    Ok(ThreeBoxes {
+        first,
+        second,
+        third,
+        depth,
+    })
+}
+
 pub fn deeper(a: u64, b: u64) -> u64
     ensures { result ≡ max a b }
 {

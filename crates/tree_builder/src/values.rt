@@ -5,7 +5,7 @@ ghost use Rattle.ruby_tree.specs.Tree.{Tree, Trees, Other, Pairs, Pieces, at, ni
 ghost use Rattle.ruby_tree.specs.SourcePositions.{position_of};
 ghost use Rattle.tree_builder.specs.Subtrees.{IsNamed, AreNamed, Holds, HoldsAll, HoldsOther, HoldsPairs, HoldsPieces};
 
-use super::kept::{boxed, deeper, grown};
+use super::kept::{grown, two_boxes};
 use super::{ElseSubtree, PairSubtrees, PieceSubtrees, Subtree, Subtrees};
 use bs_outside::{Bytes, NoMemory};
 use ruby_tree::{Collection, Kind, Literal, Name, SourcePosition, Variable};
@@ -139,11 +139,9 @@ pub fn range(
 ) -> Result<Subtree, NoMemory>
     ensures made { (T : Texts) (a b : Tree) → Holds T from a → Holds T to b → IfOk result (λ part. Holds T part (at (position_of position) (range a b exclusive))) }
 {
-    let depth = deeper(from.depth, to.depth);
-    let from = boxed(alloc, from)?;
-    let to = boxed(alloc, to)?;
-    let kind = Collection::Range(from, to, exclusive);
-    Ok(grown(position, Kind::Collection(kind), depth))
+    let two = two_boxes(alloc, from, to)?;
+    let kind = Collection::Range(two.first, two.second, exclusive);
+    Ok(grown(position, Kind::Collection(kind), two.depth))
 }
 
 /// The value before the first `::`, whether the path begins with `::`, and the names.

@@ -8,5 +8,5 @@ use Rattle.tree_builder.proofs.Built.{longer_holds}
 pub returns : goal.returns
 returns c T w a x h small named =
     let p = c.in-Collection-ConstantPath in
-    let is : (out-Node c.args.path.node).kind ≡ kind.Collection (collection.ConstantPath p.value p.top p.names) = cc in
-    longer_holds T _ _ _ _ _ _ is c.in_ok-push.ensures.items w a x h small named
+    let is : (out-Node c.args.path.node).kind ≡ kind.Collection (collection.ConstantPath p.field-0-0 p.field-0-1 p.names) = cc in
+    longer_holds T _ _ _ _ _ _ is c.in_ok-push-in-Collection-ConstantPath.ensures.items w a x h small named

@@ -1,6 +1,5 @@
-use Rattle.std.proofs.Common.{arith}
 use Rattle.tree_builder.proofs.controls.either.Goals as goal
 use Rattle.tree_builder.proofs.ControlKinds.{either_kind}
 
 pub returns : goal.returns
-returns c = record { made = λ T a b h_left h_right. c.grown.ensures T _ (either_kind T _ _ _ _ _ _ _ (c.in_ok-left.ensures T a h_left) (c.in_ok-right.ensures T b h_right) (omega arith)) }
+returns c = record { made = λ T a b h_left h_right. c.grown.ensures T _ (either_kind T _ _ _ _ _ _ _ (c.in_ok-two.ensures.first T a h_left) (c.in_ok-two.ensures.second T b h_right) c.in_ok-two.ensures.depth) }
