@@ -1,3 +1,4 @@
 pub mod Nothing
 pub mod Takings
 pub mod TreeLists
+pub mod TreeTellings

@@ -45,10 +45,7 @@ impl Input for MemInput {
         if self.script.next_fails() {
             return Err(InputFault::Failed);
         }
-        match self.left.take(alloc, max) {
-            Ok(bytes) => Ok(bytes),
-            Err(_) => Err(InputFault::NoMemory),
-        }
+        Ok(self.left.take(alloc, max)?)
     }
 }
 
@@ -75,9 +72,6 @@ impl Input for SureInput {
     ghost faults = { λ i. 0 };
 
     fn take(&mut self, alloc: Global, max: usize) -> Result<Bytes, InputFault> {
-        match self.left.take(alloc, max) {
-            Ok(bytes) => Ok(bytes),
-            Err(_) => Err(InputFault::NoMemory),
-        }
+        Ok(self.left.take(alloc, max)?)
     }
 }

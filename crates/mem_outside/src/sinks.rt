@@ -61,10 +61,8 @@ impl Sink for MemSink {
         if self.script.next_fails() {
             return Err(SinkFault::Failed);
         }
-        match self.taken.extend_from_slice(piece) {
-            Ok(()) => Ok(piece.len()),
-            Err(_) => Err(SinkFault::NoMemory),
-        }
+        self.taken.extend_from_slice(piece)?;
+        Ok(piece.len())
     }
 }
 
@@ -106,9 +104,7 @@ impl Sink for SureSink {
     ghost faults = { λ s. 0 };
 
     fn put(&mut self, _alloc: Global, piece: &[u8]) -> Result<usize, SinkFault> {
-        match self.taken.extend_from_slice(piece) {
-            Ok(()) => Ok(piece.len()),
-            Err(_) => Err(SinkFault::NoMemory),
-        }
+        self.taken.extend_from_slice(piece)?;
+        Ok(piece.len())
     }
 }

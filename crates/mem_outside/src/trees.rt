@@ -12,6 +12,7 @@ use crate::Files;
 use bs_outside::{Bytes, Item, Items, Listing, NoMemory, Stat, Text, Texts, Tree, TreeFault};
 use mem_shelf::Script;
 use std::alloc::Global;
+use std::marker::Model;
 
 /// Puts a copy of the path at the end of the list.
 fn note(alloc: Global, paths: &mut Texts, path: &Text) -> Result<(), NoMemory>
@@ -20,151 +21,6 @@ fn note(alloc: Global, paths: &mut Texts, path: &Text) -> Result<(), NoMemory>
 {
     let copy = path.copy(alloc)?;
     paths.push(copy)
-}
-
-/// A tree whose calls fail as its script says.
-#[derive(Drop, Debug)]
-pub struct MemTree {
-    files: Files,
-    script: Script,
-    stats: Texts,
-    listings: Texts,
-    reads: Texts,
-}
-
-impl MemTree {
-    /// The tree of this list, whose calls with these numbers, counted from 1, fail, or nothing where it is not the list of a source
-    /// tree: where a path is not normal or stands twice, a time is 2^63 or more, `/` does not stand, or a path lies in no folder of it.
-    pub fn new(
-        alloc: Global,
-        items: Vec<(Text, Item)>,
-        fail: Vec<u64>,
-    ) -> Result<Option<MemTree>, NoMemory>
-        ensures made { IfOk result (λ made. is_some made ≡ is_tree_list items.items) }
-        ensures tree { IfOk result (λ made. IfSome made (λ tree. IsSourceTree tree.files)) }
-        ensures told { IfOk result (λ made. IfSome made (λ tree. tree ≡ record {
-          files = map_of items.items;
-          script = record { fail = fail.items; calls = 0 };
-          stats = [];
-          listings = [];
-          reads = [];
-        })) }
-    {
-        match Files::from_items(alloc, items)? {
-            Some(files) => Ok(Some(MemTree {
-                files,
-                script: Script::new(fail),
-                stats: Items::new(alloc),
-                listings: Items::new(alloc),
-                reads: Items::new(alloc),
-            })),
-            None => Ok(None),
-        }
-    }
-
-    /// The paths of the stats so far that were answered.
-    pub fn stats(&self) -> &[Text]
-        ensures { result.now ≡ self.now.stats }
-    {
-        self.stats.as_slice()
-    }
-
-    /// The paths of the listings so far that were answered.
-    pub fn listings(&self) -> &[Text]
-        ensures { result.now ≡ self.now.listings }
-    {
-        self.listings.as_slice()
-    }
-
-    /// The paths of the reads so far that were answered.
-    pub fn reads(&self) -> &[Text]
-        ensures { result.now ≡ self.now.reads }
-    {
-        self.reads.as_slice()
-    }
-}
-
-impl Tree for MemTree {
-    ghost contents = { λ t. Some t.files };
-
-    ghost stats = { λ t. Some t.stats };
-
-    ghost listings = { λ t. Some t.listings };
-
-    ghost reads = { λ t. Some t.reads };
-
-    ghost faults = { λ t. faults_of t.script };
-
-    fn stat(&mut self, alloc: Global, path: &Text) -> Result<Option<Stat>, TreeFault>
-        ensures answer { IfOk result (λ found. found ≡ stat_at self.old.files path.now) }
-        ensures time { IfOk result (λ found. IfSome found (λ stat. stat.mtime < 2 ^ 63)) }
-        ensures contents { self.new.files ≡ self.old.files }
-        ensures asked { OnOk result (Some self.new.stats ≡ added (Some self.old.stats) (path.now ∷ [])) }
-        ensures err { OnErr result (self.new.stats ≡ self.old.stats) }
-        ensures listings { self.new.listings ≡ self.old.listings }
-        ensures reads { self.new.reads ≡ self.old.reads }
-        ensures counted { faults_of self.old.script ≤ faults_of self.new.script }
-        ensures failed { IsErrOf result TreeFault.Failed → Rose (faults_of self.old.script) (faults_of self.new.script) }
-        ensures exact { IsErrOf result TreeFault.Failed ↔ fails_next self.old.script ≡ true }
-        ensures called { self.new.script ≡ called self.old.script }
-    {
-        if self.script.next_fails() {
-            return Err(TreeFault::Failed);
-        }
-        match note(alloc, &mut self.stats, path) {
-            Ok(()) => Ok(self.files.stat(path)),
-            Err(_) => Err(TreeFault::NoMemory),
-        }
-    }
-
-    fn list(&mut self, alloc: Global, path: &Text) -> Result<Option<Listing>, TreeFault>
-        ensures answer { IfOk result (λ found. found ≡ list_at self.old.files path.now) }
-        ensures names { IfOk result (λ found. IfSome found (λ names. All (λ listed. is_segment listed.name ≡ true) names)) }
-        ensures contents { self.new.files ≡ self.old.files }
-        ensures asked { OnOk result (Some self.new.listings ≡ added (Some self.old.listings) (path.now ∷ [])) }
-        ensures err { OnErr result (self.new.listings ≡ self.old.listings) }
-        ensures stats { self.new.stats ≡ self.old.stats }
-        ensures reads { self.new.reads ≡ self.old.reads }
-        ensures counted { faults_of self.old.script ≤ faults_of self.new.script }
-        ensures failed { IsErrOf result TreeFault.Failed → Rose (faults_of self.old.script) (faults_of self.new.script) }
-        ensures exact { IsErrOf result TreeFault.Failed ↔ fails_next self.old.script ≡ true }
-        ensures called { self.new.script ≡ called self.old.script }
-    {
-        if self.script.next_fails() {
-            return Err(TreeFault::Failed);
-        }
-        let Ok(found) = self.files.list(alloc, path) else {
-            return Err(TreeFault::NoMemory);
-        };
-        match note(alloc, &mut self.listings, path) {
-            Ok(()) => Ok(found),
-            Err(_) => Err(TreeFault::NoMemory),
-        }
-    }
-
-    fn read(&mut self, alloc: Global, path: &Text) -> Result<Option<Bytes>, TreeFault>
-        ensures answer { IfOk result (λ found. found ≡ bytes_at self.old.files path.now) }
-        ensures contents { self.new.files ≡ self.old.files }
-        ensures asked { OnOk result (Some self.new.reads ≡ added (Some self.old.reads) (path.now ∷ [])) }
-        ensures err { OnErr result (self.new.reads ≡ self.old.reads) }
-        ensures stats { self.new.stats ≡ self.old.stats }
-        ensures listings { self.new.listings ≡ self.old.listings }
-        ensures counted { faults_of self.old.script ≤ faults_of self.new.script }
-        ensures failed { IsErrOf result TreeFault.Failed → Rose (faults_of self.old.script) (faults_of self.new.script) }
-        ensures exact { IsErrOf result TreeFault.Failed ↔ fails_next self.old.script ≡ true }
-        ensures called { self.new.script ≡ called self.old.script }
-    {
-        if self.script.next_fails() {
-            return Err(TreeFault::Failed);
-        }
-        let Ok(found) = self.files.read(alloc, path) else {
-            return Err(TreeFault::NoMemory);
-        };
-        match note(alloc, &mut self.reads, path) {
-            Ok(()) => Ok(found),
-            Err(_) => Err(TreeFault::NoMemory),
-        }
-    }
 }
 
 /// A tree whose calls do not fail.
@@ -233,29 +89,153 @@ impl Tree for SureTree {
     ghost faults = { λ t. 0 };
 
     fn stat(&mut self, alloc: Global, path: &Text) -> Result<Option<Stat>, TreeFault> {
-        match note(alloc, &mut self.stats, path) {
-            Ok(()) => Ok(self.files.stat(path)),
-            Err(_) => Err(TreeFault::NoMemory),
-        }
+        note(alloc, &mut self.stats, path)?;
+        Ok(self.files.stat(path))
     }
 
     fn list(&mut self, alloc: Global, path: &Text) -> Result<Option<Listing>, TreeFault> {
-        let Ok(found) = self.files.list(alloc, path) else {
-            return Err(TreeFault::NoMemory);
-        };
-        match note(alloc, &mut self.listings, path) {
-            Ok(()) => Ok(found),
-            Err(_) => Err(TreeFault::NoMemory),
-        }
+        let found = self.files.list(alloc, path)?;
+        note(alloc, &mut self.listings, path)?;
+        Ok(found)
     }
 
     fn read(&mut self, alloc: Global, path: &Text) -> Result<Option<Bytes>, TreeFault> {
-        let Ok(found) = self.files.read(alloc, path) else {
-            return Err(TreeFault::NoMemory);
-        };
-        match note(alloc, &mut self.reads, path) {
-            Ok(()) => Ok(found),
-            Err(_) => Err(TreeFault::NoMemory),
+        let found = self.files.read(alloc, path)?;
+        note(alloc, &mut self.reads, path)?;
+        Ok(found)
+    }
+}
+
+/// A tree whose calls fail as its script says.
+#[derive(Drop, Debug)]
+pub struct MemTree {
+    sure: SureTree,
+    script: Script,
+}
+
+impl Model for MemTree {
+    ghost use Rattle.mem_outside.specs.TreeTellings.{TreeTelling, telling_code};
+
+    ghost Value = { TreeTelling };
+
+    ghost coded = { telling_code };
+
+    ghost view = { λ a. record { files = a.sure.files; script = a.script; stats = a.sure.stats; listings = a.sure.listings; reads = a.sure.reads } };
+}
+
+impl MemTree {
+    /// The tree of this list, whose calls with these numbers, counted from 1, fail, or nothing where it is not the list of a source
+    /// tree: where a path is not normal or stands twice, a time is 2^63 or more, `/` does not stand, or a path lies in no folder of it.
+    pub fn new(
+        alloc: Global,
+        items: Vec<(Text, Item)>,
+        fail: Vec<u64>,
+    ) -> Result<Option<MemTree>, NoMemory>
+        ensures made { IfOk result (λ made. is_some made ≡ is_tree_list items.items) }
+        ensures tree { IfOk result (λ made. IfSome made (λ tree. IsSourceTree tree.files)) }
+        ensures told { IfOk result (λ made. IfSome made (λ tree. tree ≡ record {
+          files = map_of items.items;
+          script = record { fail = fail.items; calls = 0 };
+          stats = [];
+          listings = [];
+          reads = [];
+        })) }
+    {
+        match SureTree::new(alloc, items)? {
+            Some(sure) => Ok(Some(MemTree {
+                sure,
+                script: Script::new(fail),
+            })),
+            None => Ok(None),
         }
+    }
+
+    /// The paths of the stats so far that were answered.
+    pub fn stats(&self) -> &[Text]
+        ensures { result.now ≡ self.now.stats }
+    {
+        self.sure.stats()
+    }
+
+    /// The paths of the listings so far that were answered.
+    pub fn listings(&self) -> &[Text]
+        ensures { result.now ≡ self.now.listings }
+    {
+        self.sure.listings()
+    }
+
+    /// The paths of the reads so far that were answered.
+    pub fn reads(&self) -> &[Text]
+        ensures { result.now ≡ self.now.reads }
+    {
+        self.sure.reads()
+    }
+}
+
+impl Tree for MemTree {
+    ghost contents = { λ t. Some t.files };
+
+    ghost stats = { λ t. Some t.stats };
+
+    ghost listings = { λ t. Some t.listings };
+
+    ghost reads = { λ t. Some t.reads };
+
+    ghost faults = { λ t. faults_of t.script };
+
+    fn stat(&mut self, alloc: Global, path: &Text) -> Result<Option<Stat>, TreeFault>
+        ensures answer { IfOk result (λ found. found ≡ stat_at self.old.files path.now) }
+        ensures time { IfOk result (λ found. IfSome found (λ stat. stat.mtime < 2 ^ 63)) }
+        ensures contents { self.new.files ≡ self.old.files }
+        ensures asked { OnOk result (Some self.new.stats ≡ added (Some self.old.stats) (path.now ∷ [])) }
+        ensures err { OnErr result (self.new.stats ≡ self.old.stats) }
+        ensures listings { self.new.listings ≡ self.old.listings }
+        ensures reads { self.new.reads ≡ self.old.reads }
+        ensures counted { faults_of self.old.script ≤ faults_of self.new.script }
+        ensures failed { IsErrOf result TreeFault.Failed → Rose (faults_of self.old.script) (faults_of self.new.script) }
+        ensures exact { IsErrOf result TreeFault.Failed ↔ fails_next self.old.script ≡ true }
+        ensures called { self.new.script ≡ called self.old.script }
+    {
+        if self.script.next_fails() {
+            return Err(TreeFault::Failed);
+        }
+        self.sure.stat(alloc, path)
+    }
+
+    fn list(&mut self, alloc: Global, path: &Text) -> Result<Option<Listing>, TreeFault>
+        ensures answer { IfOk result (λ found. found ≡ list_at self.old.files path.now) }
+        ensures names { IfOk result (λ found. IfSome found (λ names. All (λ listed. is_segment listed.name ≡ true) names)) }
+        ensures contents { self.new.files ≡ self.old.files }
+        ensures asked { OnOk result (Some self.new.listings ≡ added (Some self.old.listings) (path.now ∷ [])) }
+        ensures err { OnErr result (self.new.listings ≡ self.old.listings) }
+        ensures stats { self.new.stats ≡ self.old.stats }
+        ensures reads { self.new.reads ≡ self.old.reads }
+        ensures counted { faults_of self.old.script ≤ faults_of self.new.script }
+        ensures failed { IsErrOf result TreeFault.Failed → Rose (faults_of self.old.script) (faults_of self.new.script) }
+        ensures exact { IsErrOf result TreeFault.Failed ↔ fails_next self.old.script ≡ true }
+        ensures called { self.new.script ≡ called self.old.script }
+    {
+        if self.script.next_fails() {
+            return Err(TreeFault::Failed);
+        }
+        self.sure.list(alloc, path)
+    }
+
+    fn read(&mut self, alloc: Global, path: &Text) -> Result<Option<Bytes>, TreeFault>
+        ensures answer { IfOk result (λ found. found ≡ bytes_at self.old.files path.now) }
+        ensures contents { self.new.files ≡ self.old.files }
+        ensures asked { OnOk result (Some self.new.reads ≡ added (Some self.old.reads) (path.now ∷ [])) }
+        ensures err { OnErr result (self.new.reads ≡ self.old.reads) }
+        ensures stats { self.new.stats ≡ self.old.stats }
+        ensures listings { self.new.listings ≡ self.old.listings }
+        ensures counted { faults_of self.old.script ≤ faults_of self.new.script }
+        ensures failed { IsErrOf result TreeFault.Failed → Rose (faults_of self.old.script) (faults_of self.new.script) }
+        ensures exact { IsErrOf result TreeFault.Failed ↔ fails_next self.old.script ≡ true }
+        ensures called { self.new.script ≡ called self.old.script }
+    {
+        if self.script.next_fails() {
+            return Err(TreeFault::Failed);
+        }
+        self.sure.read(alloc, path)
     }
 }

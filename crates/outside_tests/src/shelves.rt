@@ -93,9 +93,15 @@ fn publishes_over_bites(rt: HostRuntime) -> Result<(), Fail> {
             let fail = vec![in alloc; failing]?;
             let mut shelf = MemShelf::new(alloc, start_files(alloc)?, guests(alloc)?, fail, bite);
             let (joined, own) = published(alloc, &mut shelf, failing)?;
-            assert!(rt; are_files(shelf.past(), &wanted, joined), "bite {bite}, failing {failing}");
+            assert!(rt;
+                are_files(shelf.past(), &wanted, joined),
+                "bite {bite}, failing {failing}"
+            );
             assert_eq!(rt; shelf.own().len(), own, "bite {bite}, failing {failing}");
-            assert!(rt; (own == 1) == (failing < 1 || calls < failing), "bite {bite}, {failing}");
+            assert!(rt;
+                (own == 1) == (failing < 1 || calls < failing),
+                "bite {bite}, {failing}"
+            );
         }
     }
     Ok(())

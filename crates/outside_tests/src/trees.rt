@@ -74,7 +74,10 @@ fn lists_answer_as_the_list_says(rt: HostRuntime) -> Result<(), Fail> {
     ] {
         let found = tree.list(alloc, &Text::new(alloc, path.as_bytes())?)?;
         let names = spelled(alloc, found)?;
-        assert!(rt; names.as_deref() == wanted.map(|names| names.as_bytes()), "{path}");
+        assert!(rt;
+            names.as_deref() == wanted.map(|names| names.as_bytes()),
+            "{path}"
+        );
     }
     Ok(())
 }
