@@ -6,11 +6,6 @@ use Rattle.bs_outside.specs.History.{History, Since, IsLast}
 use Rattle.bs_outside.specs.declared.names.CacheName.{CacheName}
 use Rattle.bs_outside.proofs.Since.{since-then}
 
--- at an error, what holds anyhow
-pub on_err : {T E : Type 0} (r : Result T E) (P : Type 0) → P → OnErr r P
-on_err (Ok x) P p = tt
-on_err (Err e) P p = p
-
 -- the bytes so far and those to come are all, after an append too
 pub appended : (before after piece all : List ℕ) (n : ℕ) → n ≤ length piece → after ≡ before ++ take n piece → before ++ piece ≡ all → after ++ take (length piece - n) (drop n piece) ≡ all
 appended before after piece all n within is so_far =

@@ -54,8 +54,3 @@ put_failed a b before after item later rose (inr joined) = put_done a b before a
 pub put_part : (a b : History) (item : CacheItem) → Since a b [] [] ⊎ (Since a b (item ∷ []) [] × IsLast item b.past) → PutsPart a b (item ∷ [])
 put_part a b item (inl not) = ([], not, leaves item none)
 put_part a b item (inr joined) = (item ∷ [], joined.0, takes item none)
-
--- at an error, what holds anyhow
-pub on_err : {T E : Type 0} (r : Result T E) (P : Type 0) → P → OnErr r P
-on_err (Ok x) P p = tt
-on_err (Err e) P p = p

@@ -1,12 +1,13 @@
 use Rattle.std.proofs.Common.{inl, [], rules}
 use Rattle.std.proofs.lemmas.Result.{on_ok_weaker, on_err_weaker}
 use Rattle.bs_outside.proofs.Since.{since-then}
-use Rattle.atomic_files.proofs.Written.{on_err, appended, all_written, joins_last, joins_or_not}
+use Rattle.bs_outside.proofs.Owing.{on_err}
+use Rattle.atomic_files.proofs.Written.{appended, all_written, joins_last, joins_or_not}
 use Rattle.atomic_files.proofs.put_whole.Goals as goal
 
 pub returns-in_err-taken-clause-err : goal.returns-in_err-taken-clause-err
 returns-in_err-taken-clause-err g c told =
-    on_err _ _ (inl (since-then _ _ _ [] [] [] [] (c.loop-rest.invariant.since told) (c.append.ensures.since told)))
+    on_err _ (inl (since-then _ _ _ [] [] [] [] (c.loop-rest.invariant.since told) (c.append.ensures.since told)))
 
 pub loop-rest-preserved : goal.loop-rest-preserved
 loop-rest-preserved g c = record {

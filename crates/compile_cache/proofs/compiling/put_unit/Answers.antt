@@ -1,11 +1,11 @@
 use Rattle.std.proofs.Common.{inl}
 use Rattle.bs_outside.proofs.Since.{since-nothing}
-use Rattle.cache_meaning.proofs.LeftOut.{on_err}
+use Rattle.bs_outside.proofs.Owing.{on_err}
 use Rattle.compile_cache.proofs.Puts.{put_none, no_payload, none_compiled}
 use Rattle.compile_cache.proofs.compiling.put_unit.Goals as goal
 
 pub returns-in_err-entry-in-Whole-clause-err : goal.returns-in_err-entry-in-Whole-clause-err
-returns-in_err-entry-in-Whole-clause-err g c told = on_err _ _ (put_none _ _)
+returns-in_err-entry-in-Whole-clause-err g c told = on_err _ (put_none _ _)
 
 pub returns-in_err-entry-in-Whole-clause-fits : goal.returns-in_err-entry-in-Whole-clause-fits
 returns-in_err-entry-in-Whole-clause-fits g c told = inl (since-nothing _)
