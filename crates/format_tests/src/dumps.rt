@@ -11,7 +11,7 @@ use std::sync::ledger::{Blank, Ledger};
 use std::test::Fail;
 
 /// The dump of the empty file `/e.rb`.
-const EMPTY: [u8; 56] = [
+const EMPTY: &[u8] = &[
     0x59, 0x53, 0x51, 0x01, 0x05, 0x2f, 0x65, 0x2e, 0x72, 0x62, 0x01, 0x00, 0, 0, 0, 0, 0, 0, 0, 0,
     0, 0, 0, 0, 0, 0, 0, 0, 0x2c, 0, 0, 0, 0, 0, 0, 0, 0x0c, 0, 0, 0, 0, 0, 0, 0, 0x00, 0x01, 0x00,
     0x00, 0x00, 0x00, 0x00, 0x02, 0x01, 0x07, 0x01, 0x24,
@@ -25,13 +25,13 @@ const ALL_HEAD: &[u8] = &[
 ];
 
 /// The index: kind, parent, locals, place and length.
-const ALL_INDEX: &[[u64; 5]] = &[
-    [0, 0, 1, 211, 216],
-    [1, 0, 4, 427, 30],
-    [2, 0, 0, 457, 16],
-    [3, 0, 0, 473, 15],
-    [4, 0, 0, 488, 12],
-    [5, 0, 0, 500, 13],
+const ALL_INDEX: &[(u8, [u64; 4])] = &[
+    (0, [0, 1, 211, 216]),
+    (1, [0, 4, 427, 30]),
+    (2, [0, 0, 457, 16]),
+    (3, [0, 0, 473, 15]),
+    (4, [0, 0, 488, 12]),
+    (5, [0, 0, 500, 13]),
 ];
 
 const FILE: &[u8] = &[
@@ -158,9 +158,9 @@ const ENSURE: &[u8] = &[
 
 fn all_bytes(alloc: Global) -> Result<Vec<u8>, AllocError> {
     let mut bytes = Vec::from_slice(alloc, ALL_HEAD)?;
-    for row in ALL_INDEX {
-        bytes.push(row[0] as u8)?;
-        for number in &row[1..] {
+    for (kind, numbers) in ALL_INDEX {
+        bytes.push(*kind)?;
+        for number in numbers {
             bytes.extend_from_slice(&number.to_le_bytes())?;
         }
     }
@@ -202,10 +202,24 @@ fn is_own_dump(alloc: Global, bytes: &[u8]) -> Result<bool, AllocError> {
     })
 }
 
+/// The bytes of the empty file's dump between these places.
+fn part(from: usize, past: usize) -> &'static [u8] {
+    EMPTY.get(from..past).unwrap_or(&[])
+}
+
+/// The dump of the empty file with another byte at the place.
+fn with_byte(alloc: Global, place: usize, byte: u8) -> Result<Vec<u8>, AllocError> {
+    let mut bytes = Vec::from_slice(alloc, EMPTY)?;
+    if let Some(changed) = bytes.get_mut(place) {
+        *changed = byte;
+    }
+    Ok(bytes)
+}
+
 #[test]
 fn empty_file(rt: HostRuntime) -> Result<(), Fail> {
     let alloc = rt.alloc();
-    let (unit, taken) = loaded(alloc, &EMPTY, 0)?;
+    let (unit, taken) = loaded(alloc, EMPTY, 0)?;
     let unit = unit.ok_or("the bytes are a dump")?;
     assert_eq!(rt; taken, 56);
     assert_eq!(rt; unit.path.as_slice(), b"/e.rb".as_slice());
@@ -223,21 +237,20 @@ fn empty_file(rt: HostRuntime) -> Result<(), Fail> {
         );
         assert!(rt; matches!(body.code.get(1).map(|line| &line.instr), Some(Instr::Leave)));
     }
-    assert_eq!(rt; dump(alloc, &unit)?.as_slice(), EMPTY.as_slice());
+    assert_eq!(rt; dump(alloc, &unit)?.as_slice(), EMPTY);
     Ok(())
 }
 
 #[test]
 fn changes_and_prefixes(rt: HostRuntime) -> Result<(), Fail> {
     let alloc = rt.alloc();
-    for place in 0..56usize {
-        let (unit, taken) = loaded(alloc, &EMPTY[..place], 0)?;
+    for place in 0..EMPTY.len() {
+        let (unit, taken) = loaded(alloc, part(0, place), 0)?;
         assert!(rt; unit.is_none(), "{place}");
         assert!(rt; taken <= place as u64, "{place}");
         for byte in 0..=255u8 {
-            let mut changed = EMPTY;
-            changed[place] = byte;
-            assert!(rt; is_own_dump(alloc, &changed)?, "{place} {byte}");
+            let bytes = with_byte(alloc, place, byte)?;
+            assert!(rt; is_own_dump(alloc, &bytes)?, "{place} {byte}");
         }
     }
     Ok(())
@@ -245,13 +258,13 @@ fn changes_and_prefixes(rt: HostRuntime) -> Result<(), Fail> {
 
 /// The dump of a file with an empty body: the path's length, the path, and where the body begins.
 fn with_path(alloc: Global, length: &[u8], path: &[u8], place: u8) -> Result<Vec<u8>, AllocError> {
-    let mut bytes = Vec::from_slice(alloc, &EMPTY[..4])?;
+    let mut bytes = Vec::from_slice(alloc, part(0, 4))?;
     bytes.extend_from_slice(length)?;
     bytes.extend_from_slice(path)?;
     bytes.push(1)?;
-    bytes.extend_from_slice(&EMPTY[11..28])?;
+    bytes.extend_from_slice(part(11, 28))?;
     bytes.push(place)?;
-    bytes.extend_from_slice(&EMPTY[29..])?;
+    bytes.extend_from_slice(part(29, EMPTY.len()))?;
     Ok(bytes)
 }
 
@@ -290,7 +303,7 @@ const PATHS: &[(&[u8], &[u8], u8, bool)] = &[
 ];
 
 /// A byte of the empty file's dump, another one for it, and whether that is a dump.
-const CHANGES: &[(u8, u8, bool)] = &[
+const CHANGES: &[(usize, u8, bool)] = &[
     (4, 4, false),
     (5, 0x41, true),
     (9, 0xff, true),
@@ -315,18 +328,15 @@ fn numbers_and_lengths(rt: HostRuntime) -> Result<(), Fail> {
         assert!(rt; taken <= bytes.len() as u64);
     }
     for (place, byte, is_dump) in CHANGES {
-        let mut bytes = Vec::from_slice(alloc, &EMPTY)?;
-        if let Some(changed) = bytes.get_mut(*place as usize) {
-            *changed = *byte;
-        }
+        let bytes = with_byte(alloc, *place, *byte)?;
         let unit = loaded(alloc, &bytes, 0)?.0;
         assert_eq!(rt; unit.is_some(), *is_dump, "{place} {byte}");
     }
     // as many sequences as a number can say
-    let mut bytes = Vec::from_slice(alloc, &EMPTY[..10])?;
+    let mut bytes = Vec::from_slice(alloc, part(0, 10))?;
     bytes.extend_from_slice(&u64::MAX.to_le_bytes())?;
     bytes.extend_from_slice(&[0xff, 0x01])?;
-    bytes.extend_from_slice(&EMPTY[11..])?;
+    bytes.extend_from_slice(part(11, EMPTY.len()))?;
     assert!(rt; loaded(alloc, &bytes, 0)?.0.is_none());
     Ok(())
 }
@@ -354,7 +364,7 @@ fn every_kind(rt: HostRuntime) -> Result<(), Fail> {
     assert!(rt; loaded(alloc, &bytes, 0)?.0.is_none());
     // the same bytes behind others, and a place behind the end
     let mut behind = Vec::from_slice(alloc, b"abc")?;
-    behind.extend_from_slice(&EMPTY)?;
+    behind.extend_from_slice(EMPTY)?;
     assert!(rt; loaded(alloc, &behind, 3)?.0.is_some());
     assert!(rt; loaded(alloc, &behind, 60)?.0.is_none());
     Ok(())
@@ -367,7 +377,7 @@ fn read_parts<L: Ledger>(alloc: Global, blank: Blank) -> Result<([bool; 4], u64)
     requires some { 0 < L.parts }
 {
     let mut steps = Steps::<L>::new(blank);
-    let image = Image::new(Bytes::new(alloc, &EMPTY)?);
+    let image = Image::new(Bytes::new(alloc, EMPTY)?);
     let head = read_head(alloc, &image, 0, &mut steps)?;
     let place = match &head {
         Some(head) => head.entries.get(0).map(|entry| (entry.place, entry.length)),

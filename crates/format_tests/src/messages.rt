@@ -24,8 +24,11 @@ enum Told {
     Other,
 }
 
-fn reading_of(alloc: Global, bytes: &[u8]) -> Result<Told, AllocError> {
-    match decode(alloc, bytes) {
+/// What the reading of these bytes tells.
+fn tell(alloc: Global, read: Result<Value, Unread>, bytes: &[u8]) -> Result<Told, AllocError>
+    requires { IfOk read (λ value. IsSpellable value) }
+{
+    match read {
         Ok(value) => {
             let again = encode(alloc, &value)?;
             if again.as_slice() != bytes {
@@ -37,6 +40,10 @@ fn reading_of(alloc: Global, bytes: &[u8]) -> Result<Told, AllocError> {
         Err(Unread::Malformed { at }) => Ok(Told::Malformed(at)),
         Err(Unread::NoMemory) => Err(AllocError),
     }
+}
+
+fn reading_of(alloc: Global, bytes: &[u8]) -> Result<Told, AllocError> {
+    tell(alloc, decode(alloc, bytes), bytes)
 }
 
 fn told_of(value: &Value) -> Told {
@@ -158,6 +165,13 @@ fn scalars_and_faults(rt: HostRuntime) -> Result<(), Fail> {
     Ok(())
 }
 
+fn length_of(told: Told) -> usize {
+    match told {
+        Told::Str(length) | Told::Sym(length) | Told::List(length) => length,
+        _ => 0,
+    }
+}
+
 /// A head, and so many equal bytes.
 fn filled(alloc: Global, head: &[u8], count: usize, byte: u8) -> Result<Vec<u8>, AllocError> {
     let mut bytes = Vec::from_slice(alloc, head)?;
@@ -183,51 +197,43 @@ fn keyed(alloc: Global, head: &[u8], count: usize) -> Result<Vec<u8>, AllocError
 #[test]
 fn lengths(rt: HostRuntime) -> Result<(), Fail> {
     let alloc = rt.alloc();
-    let texts: [(&[u8], usize); 10] = [
-        (&[0xa0], 0),
-        (&[0xaf], 15),
-        (&[0xb0], 16),
-        (&[0xbf], 31),
-        (&[0xd9, 0x20], 32),
-        (&[0xd9, 0xff], 255),
-        (&[0xda, 0x01, 0x00], 256),
-        (&[0xda, 0xff, 0xff], 65535),
-        (&[0xdb, 0x00, 0x01, 0x00, 0x00], 65536),
-        (&[0xdb, 0x00, 0x01, 0x00, 0x01], 65537),
+    let rows: [(&[u8], u8, Told); 28] = [
+        (&[0xa0], 0x80, Told::Str(0)),
+        (&[0xaf], 0x80, Told::Str(15)),
+        (&[0xb0], 0x80, Told::Str(16)),
+        (&[0xbf], 0x80, Told::Str(31)),
+        (&[0xd9, 0x20], 0x80, Told::Str(32)),
+        (&[0xd9, 0xff], 0x80, Told::Str(255)),
+        (&[0xda, 0x01, 0x00], 0x80, Told::Str(256)),
+        (&[0xda, 0xff, 0xff], 0x80, Told::Str(65535)),
+        (&[0xdb, 0x00, 0x01, 0x00, 0x00], 0x80, Told::Str(65536)),
+        (&[0xdb, 0x00, 0x01, 0x00, 0x01], 0x80, Told::Str(65537)),
+        (&[0xc7, 0x00, 0x00], 0x61, Told::Sym(0)),
+        (&[0xd4, 0x00], 0x61, Told::Sym(1)),
+        (&[0xd5, 0x00], 0x61, Told::Sym(2)),
+        (&[0xc7, 0x03, 0x00], 0x61, Told::Sym(3)),
+        (&[0xd6, 0x00], 0x61, Told::Sym(4)),
+        (&[0xd7, 0x00], 0x61, Told::Sym(8)),
+        (&[0xc7, 0x0f, 0x00], 0x61, Told::Sym(15)),
+        (&[0xd8, 0x00], 0x61, Told::Sym(16)),
+        (&[0xc7, 0x11, 0x00], 0x61, Told::Sym(17)),
+        (&[0xc7, 0xff, 0x00], 0x61, Told::Sym(255)),
+        (&[0xc8, 0x01, 0x00, 0x00], 0x61, Told::Sym(256)),
+        (&[0xc8, 0xff, 0xff, 0x00], 0x61, Told::Sym(65535)),
+        (
+            &[0xc9, 0x00, 0x01, 0x00, 0x00, 0x00],
+            0x61,
+            Told::Sym(65536),
+        ),
+        (&[0x90], 0xc0, Told::List(0)),
+        (&[0x9f], 0xc0, Told::List(15)),
+        (&[0xdc, 0x00, 0x10], 0xc0, Told::List(16)),
+        (&[0xdc, 0xff, 0xff], 0xc0, Told::List(65535)),
+        (&[0xdd, 0x00, 0x01, 0x00, 0x00], 0xc0, Told::List(65536)),
     ];
-    for (head, count) in texts {
-        let bytes = filled(alloc, head, count, 0x80)?;
-        assert_eq!(rt; reading_of(alloc, bytes.as_slice())?, Told::Str(count));
-    }
-    let names: [(&[u8], usize); 13] = [
-        (&[0xc7, 0x00, 0x00], 0),
-        (&[0xd4, 0x00], 1),
-        (&[0xd5, 0x00], 2),
-        (&[0xc7, 0x03, 0x00], 3),
-        (&[0xd6, 0x00], 4),
-        (&[0xd7, 0x00], 8),
-        (&[0xc7, 0x0f, 0x00], 15),
-        (&[0xd8, 0x00], 16),
-        (&[0xc7, 0x11, 0x00], 17),
-        (&[0xc7, 0xff, 0x00], 255),
-        (&[0xc8, 0x01, 0x00, 0x00], 256),
-        (&[0xc8, 0xff, 0xff, 0x00], 65535),
-        (&[0xc9, 0x00, 0x01, 0x00, 0x00, 0x00], 65536),
-    ];
-    for (head, count) in names {
-        let bytes = filled(alloc, head, count, 0x61)?;
-        assert_eq!(rt; reading_of(alloc, bytes.as_slice())?, Told::Sym(count));
-    }
-    let lists: [(&[u8], usize); 5] = [
-        (&[0x90], 0),
-        (&[0x9f], 15),
-        (&[0xdc, 0x00, 0x10], 16),
-        (&[0xdc, 0xff, 0xff], 65535),
-        (&[0xdd, 0x00, 0x01, 0x00, 0x00], 65536),
-    ];
-    for (head, count) in lists {
-        let bytes = filled(alloc, head, count, 0xc0)?;
-        assert_eq!(rt; reading_of(alloc, bytes.as_slice())?, Told::List(count));
+    for (head, byte, want) in rows {
+        let bytes = filled(alloc, head, length_of(want), byte)?;
+        assert_eq!(rt; reading_of(alloc, bytes.as_slice())?, want);
     }
     let maps: [(&[u8], usize); 6] = [
         (&[0x80], 0),
@@ -248,21 +254,22 @@ fn lengths(rt: HostRuntime) -> Result<(), Fail> {
 #[test]
 fn nesting(rt: HostRuntime) -> Result<(), Fail> {
     let alloc = rt.alloc();
-    let mut lists = filled(alloc, &[], 100, 0x91)?;
-    assert_eq!(rt; reading_of(alloc, lists.as_slice())?, Told::Short);
-    lists.push(0xc0)?;
-    assert_eq!(rt; reading_of(alloc, lists.as_slice())?, Told::List(1));
-    let mut empty = filled(alloc, &[], 99, 0x91)?;
-    empty.push(0x80)?;
-    assert_eq!(rt; reading_of(alloc, empty.as_slice())?, Told::List(1));
-    let mut deeper = filled(alloc, &[], 100, 0x91)?;
-    deeper.push(0x80)?;
-    assert_eq!(rt; reading_of(alloc, deeper.as_slice())?, Told::Malformed(100));
-    let deepest = filled(alloc, &[], 200, 0x91)?;
-    assert_eq!(rt;
-        reading_of(alloc, deepest.as_slice())?,
-        Told::Malformed(100)
-    );
+    let rows: [(usize, &[u8], Told); 5] = [
+        (100, &[], Told::Short),
+        (100, &[0xc0], Told::List(1)),
+        (99, &[0x80], Told::List(1)),
+        (100, &[0x80], Told::Malformed(100)),
+        (200, &[], Told::Malformed(100)),
+    ];
+    for (depth, inner, want) in rows {
+        let mut bytes = filled(alloc, &[], depth, 0x91)?;
+        bytes.extend_from_slice(inner)?;
+        assert_eq!(rt;
+            reading_of(alloc, bytes.as_slice())?,
+            want,
+            "{depth} {inner:?}"
+        );
+    }
     Ok(())
 }
 
@@ -278,7 +285,8 @@ fn prefixes_and_changes(rt: HostRuntime) -> Result<(), Fail> {
     ];
     assert_eq!(rt; reading_of(alloc, &whole)?, Told::List(16));
     for end in 0..whole.len() {
-        assert_eq!(rt; reading_of(alloc, &whole[..end])?, Told::Short, "{end}");
+        let front = whole.get(..end).unwrap_or(&[]);
+        assert_eq!(rt; reading_of(alloc, front)?, Told::Short, "{end}");
     }
     let changes: [(usize, u8, usize); 20] = [
         (0, 0xc1, 0),
@@ -304,8 +312,8 @@ fn prefixes_and_changes(rt: HostRuntime) -> Result<(), Fail> {
     ];
     for (place, byte, at) in changes {
         let mut bytes = whole;
-        if place < bytes.len() {
-            bytes[place] = byte;
+        if let Some(changed) = bytes.get_mut(place) {
+            *changed = byte;
         }
         let got = reading_of(alloc, &bytes)?;
         assert_eq!(rt; got, Told::Malformed(at), "{place} {byte}");
@@ -390,23 +398,50 @@ fn used_up_keys(rt: HostRuntime) -> Result<(), Fail> {
     Ok(())
 }
 
-/// What a reader answers from this place on, and how many bytes it took.
+/// What a reader tells from this place on, where these bytes are left, and how many bytes it took.
 fn read_from<L: Ledger>(
     alloc: Global,
-    bytes: Bytes,
-    from: u64,
     blank: Blank,
-) -> (Result<Value, Unread>, u64)
+    bytes: &[u8],
+    from: u64,
+    left: &[u8],
+) -> Result<(Told, u64), AllocError>
     requires name { blank.name ≡ L.name }
     requires parts { blank.parts ≡ L.parts }
     requires some { 0 < L.parts }
-    requires from { from ≤ length bytes }
-    ensures again { IfOk result.0 (λ value. IsSpellable value) }
+    requires from { from ≤ length bytes.now }
 {
     let mut steps = Steps::<L>::new(blank);
-    let mut reader = Reader::new(Image::new(bytes), from);
-    let got = reader.value(alloc, &mut steps);
-    (got, steps.taken())
+    let mut reader = Reader::new(Image::new(Bytes::new(alloc, bytes)?), from);
+    let read = reader.value(alloc, &mut steps);
+    Ok((tell(alloc, read, left)?, steps.taken()))
+}
+
+/// What a reader tells of these bytes behind one more.
+fn read_behind(alloc: Global, bytes: &[u8]) -> Result<(Told, u64), AllocError> {
+    let mut behind = Vec::from_slice(alloc, &[0xc1])?;
+    behind.extend_from_slice(bytes)?;
+    read_from::<Brand>(alloc, Blank::new(1), behind.as_slice(), 1, bytes)
+}
+
+/// A reader takes each byte left once.
+#[test]
+fn readers(rt: HostRuntime) -> Result<(), Fail> {
+    let rows: [(&[u8], Told); 4] = [
+        (&[], Told::Short),
+        (&[0x92, 0x01], Told::Short),
+        (&[0xcc, 0x05], Told::Malformed(1)),
+        (
+            &[0x81, 0xa1, 0x61, 0x92, 0x01, 0xd4, 0x00, 0x73],
+            Told::Map(1),
+        ),
+    ];
+    for (bytes, want) in rows {
+        let (found, taken) = read_behind(rt.alloc(), bytes)?;
+        assert_eq!(rt; found, want, "{bytes:?}");
+        assert_eq!(rt; taken, bytes.len() as u64);
+    }
+    Ok(())
 }
 
 /// Whether it is the map that has "a" with the list of 1, -1 and nil.
@@ -424,49 +459,10 @@ fn is_map_of_list(value: &Value) -> bool {
         )
 }
 
-/// A value part by part, and what keeps a reader from a value.
+/// A value part by part.
 #[test]
 fn a_map_of_a_list(rt: HostRuntime) -> Result<(), Fail> {
-    let alloc = rt.alloc();
-    let bytes = [0x81, 0xa1, 0x61, 0x93, 0x01, 0xff, 0xc0];
-    let value = decode(alloc, &bytes)?;
+    let value = decode(rt.alloc(), &[0x81, 0xa1, 0x61, 0x93, 0x01, 0xff, 0xc0])?;
     assert!(rt; is_map_of_list(&value));
-    assert_eq!(rt; encode(alloc, &value)?.as_slice(), bytes.as_slice());
-    let (got, taken) = read_from::<Brand>(
-        alloc,
-        Bytes::new(alloc, &[0x92, 0x01])?,
-        0,
-        Blank::new(1),
-    );
-    assert!(rt; matches!(got, Err(Unread::Short)));
-    assert_eq!(rt; taken, 2);
-    let (got, taken) = read_from::<Brand>(
-        alloc,
-        Bytes::new(alloc, &[0xcc, 0x05])?,
-        0,
-        Blank::new(1),
-    );
-    assert!(rt; matches!(got, Err(Unread::Malformed { at: 1 })));
-    assert_eq!(rt; taken, 2);
-    Ok(())
-}
-
-/// A reader takes each byte left once.
-#[test]
-fn readers(rt: HostRuntime) -> Result<(), Fail> {
-    let alloc = rt.alloc();
-    let bytes = Bytes::new(
-        alloc,
-        &[0xc1, 0x81, 0xa1, 0x61, 0x92, 0x01, 0xd4, 0x00, 0x73],
-    )?;
-    assert!(rt; 1 <= bytes.len());
-    let (got, taken) = read_from::<Brand>(alloc, bytes, 1, Blank::new(1));
-    let value = got?;
-    assert_eq!(rt; told_of(&value), Told::Map(1));
-    assert_eq!(rt;
-        encode(alloc, &value)?.as_slice(),
-        [0x81, 0xa1, 0x61, 0x92, 0x01, 0xd4, 0x00, 0x73].as_slice()
-    );
-    assert_eq!(rt; taken, 8);
     Ok(())
 }

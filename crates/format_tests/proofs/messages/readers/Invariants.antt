@@ -1,4 +1,0 @@
-use Rattle.format_tests.proofs.messages.readers.Given as goal
-
-abbrev pub ghosts-read_from : goal.ghosts-read_from
-ghosts-read_from g a = record { name = a.blank.name; parts = a.blank.parts }
