@@ -1,4 +1,5 @@
-//! Laws of the grammar and of the reader on lists. Each is proved once, and its function does nothing.
+//! Laws of the grammar and of the reader on lists. Each is proved once, and its function does
+//! nothing.
 ghost use Rattle.std.specs.Prelude.{◌≡◌, ◌≤◌, ◌⊎◌, ℕ, Some, None};
 ghost use Rattle.ruby_lexer.specs.Bytes.{Bytes};
 ghost use Rattle.ruby_lexer.specs.Pieces.{Toks, none};
@@ -28,7 +29,8 @@ pub fn reads_what_is_derived()
     ensures left { (source : Bytes) (tokens rest : Toks) (n : ℕ) (t u : Tree) (behind : Scope) → (readers source n).stmts own tokens fresh ≡ taken t rest behind → (rest ≡ none → ⊥) → Derives source tokens u → ⊥ }
 {}
 
-/// The walk finds the line at which the grammar stops: over lines of statements, a header, lines of statements, and so on. It gives none only where it is cut by the depth.
+/// The walk finds the line at which the grammar stops: over lines of statements, a header, lines of
+/// statements, and so on. It gives none only where it is cut by the depth.
 pub fn stops_at_one_line()
     ensures found { (source : Bytes) (tokens : Toks) (scope : Scope) (n end line : ℕ) → stops_at source (readers source n) end tokens scope ≡ Some line → StopsAt source end scope tokens line }
     ensures known { (source : Bytes) (tokens : Toks) (scope : Scope) (n end line : ℕ) → StopsAt source end scope tokens line →

@@ -1,4 +1,5 @@
-//! Laws of the reference parser: it takes exactly what the grammar derives, and a text has one reading. There is no product code.
+//! Laws of the reference parser: it takes exactly what the grammar derives, and a text has one
+//! reading. There is no product code.
 #![tactic(auto)]
 
 pub mod laws;

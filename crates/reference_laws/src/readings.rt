@@ -9,7 +9,8 @@ ghost use Rattle.reference_parser.specs.Scanned.{front, no_text, scanned_of};
 ghost use Rattle.reference_parser.specs.HasFault.{HasFault};
 ghost use Rattle.reference_parser.specs.ReadingOf.{tree, fault, reading_of};
 
-/// What a text is scanned as is what the lexer's rules say of it: a front of tokens and where it stops, or a fault of what is no text.
+/// What a text is scanned as is what the lexer's rules say of it: a front of tokens and where it
+/// stops, or a fault of what is no text.
 pub fn scanning_is_one()
     ensures front { (source : Bytes) (tokens : Toks) (stop : Option ℕ) → (scanned_of source ≡ front tokens stop) ↔ IsFront source tokens stop }
     ensures no_text { (source : Bytes) (line : ℕ) → (scanned_of source ≡ no_text line) ↔ ((IsText source → ⊥) × FaultLine source line) }

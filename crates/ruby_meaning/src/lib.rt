@@ -1,4 +1,5 @@
-//! What a program means: its world, the evaluation of its tree, natives, the search for files, and the plain run.
+//! What a program means: its world, the evaluation of its tree, natives, the search for files, and
+//! the plain run.
 #![tactic(auto)]
 
 pub mod laws;

@@ -9,8 +9,9 @@ ghost use Rattle.ruby_meaning.specs.AnswerOf.{Answer, usage_answer, IsAnswer};
 ghost use Rattle.ruby_meaning.specs.WordLaws.{IsPlanOf, reads_by};
 ghost use Rattle.ruby_meaning.specs.WordRows.{PlansOfRuns, BadRuns, PlansOfPools, OtherPlans, WholeAnswers, WorkloadRows};
 
-/// Each list of words has a plan: its paths are named by words, its numbers are those that the command takes, and a bad place is that of a word
-/// or the one behind the last. Where a word is bad, the answer says its place and nothing else.
+/// Each list of words has a plan: its paths are named by words, its numbers are those that the
+/// command takes, and a bad place is that of a word or the one behind the last. Where a word is
+/// bad, the answer says its place and nothing else.
 pub fn plans_are_of_words()
     ensures plans { (words : List Bytes) → IsPlanOf (length words) (plan_of words) }
     ensures bad_words { (reader : FileKind → Option Bytes → DataFile) (tree : SourceTree) (words : List Bytes) (input : Bytes) (k : ℕ) (answer : Answer) → plan_of words ≡ bad k → IsAnswer (reads_by reader) tree words input answer → answer ≡ usage_answer k }

@@ -133,7 +133,8 @@ fn is_whole(front: &TokenPrefix, parsed: &Parsed<'_>) -> bool
     }
 }
 
-/// The line of the fault, if what was taken is not the whole text, too deep, or has something where it may not stand.
+/// The line of the fault, if what was taken is not the whole text, too deep, or has something where
+/// it may not stand.
 fn fault_in(
     alloc: Global,
     text: &[u8],
