@@ -11,7 +11,7 @@ ghost use Rattle.reference_parser.specs.ReadItems.{Readers};
 ghost use Rattle.reference_parser.specs.ReadOperands as operands;
 ghost use Rattle.reference_parser.specs.ReadStatements.{unassigned, start_by, read_unset, read_settable, read_arg, read_assigned_value};
 ghost use Rattle.parse_state.specs.Gives.{Reads};
-ghost use Rattle.parse_operands.specs.Operands.{HoldsStart};
+ghost use Rattle.parse_state.specs.Forms.{HoldsOperandForm};
 ghost use Rattle.parse_statements.specs.Arguments.{operated, dotted_command};
 
 use crate::commands::{command, command_behind};
@@ -119,7 +119,7 @@ fn behind_start<N: Nested>(
     start: OperandForm,
 ) -> Result<Subtree, Failure>
     requires { N.IsReady nested.now }
-    ensures reads { (o : Toks) (t : operands.OperandForm) → position_of here ≡ position o → HoldsStart parser.old.symbols start t → Reads Holds parser.old parser.new result (start_by context.entry.source.now (N.readers nested.now context.entry.source.now) may_command (do_owner_of do_owner) o t) }
+    ensures reads { (o : Toks) (t : operands.Start) → position_of here ≡ position o → HoldsOperandForm parser.old.symbols start t → Reads Holds parser.old parser.new result (start_by context.entry.source.now (N.readers nested.now context.entry.source.now) may_command (do_owner_of do_owner) o t) }
 {
     match start {
         OperandForm::Operand(operand) => {

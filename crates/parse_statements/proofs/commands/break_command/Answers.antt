@@ -3,7 +3,7 @@ use Rattle.ruby_tree.specs.Rules.{position}
 use Rattle.parse_state.specs.Gives.{gave}
 use Rattle.parse_state.proofs.Steps.{later_same, from, and_then, failed, handed}
 use Rattle.parse_state.proofs.Seen.{sees}
-use Rattle.parse_operands.proofs.Tools.{at_spot}
+use Rattle.parse_state.proofs.Tools.{at_spot}
 use Rattle.parse_statements.proofs.commands.break_command.Goals as goal
 
 pub returns-in_err-values : goal.returns-in_err-values
