@@ -1,13 +1,15 @@
 //! What stands behind an operand: calls, constants and indexes.
-ghost use Rattle.std.specs.Prelude.{◌≡◌, ◌<◌, ◌≤◌, ◌-◌, suc, length, IfOk};
+ghost use Rattle.std.specs.Prelude.{◌≡◌, Bool, ◌<◌, ◌≤◌, ◌-◌, suc, length, IfOk};
+ghost use Rattle.ruby_lexer.specs.Bytes.{Bytes};
 ghost use Rattle.ruby_lexer.specs.Pieces.{Toks};
+ghost use Rattle.ruby_tree.specs.Tree as tree;
 ghost use Rattle.ruby_tree.specs.Tree.{Tree};
 ghost use Rattle.ruby_tree.specs.Rules.{Scope, position, next};
 ghost use Rattle.ruby_tree.specs.Build.{Given};
 ghost use Rattle.ruby_tree.specs.Rules as test;
 ghost use Rattle.ruby_tree.specs.SourcePositions.{position_of};
 ghost use Rattle.token_lookahead.specs.Lookaheads.{do_owner_of};
-ghost use Rattle.tree_builder.specs.Subtrees.{Holds};
+ghost use Rattle.tree_builder.specs.Subtrees.{Holds, IsNamed};
 ghost use Rattle.reference_parser.specs.Answers.{Parse};
 ghost use Rattle.reference_parser.specs.ReadItems.{Readers};
 ghost use Rattle.reference_parser.specs.ReadOperands as operands;
@@ -17,7 +19,7 @@ ghost use Rattle.parse_state.specs.Standing.{At};
 ghost use Rattle.parse_state.specs.Gives.{Reads, ReadsWithin};
 ghost use Rattle.parse_state.specs.Forms.{HoldsOperandForm};
 ghost use Rattle.parse_operands.specs.Turns.{Turned, IsLonger};
-ghost use Rattle.parse_operands.specs.Indexes.{index_from};
+ghost use Rattle.parse_operands.specs.Indexes.{called, index_from};
 
 use crate::behind::{
     argument_behind, arguments_here, assigns_here, attribute_here, constant_behind, index_here,
@@ -26,7 +28,7 @@ use crate::behind::{
 use crate::primaries::primary;
 use parse_parts::{ArgumentParts, call_items, items, items_behind};
 use parse_state::{Context, Failure, Nested, OperandForm, Parser};
-use ruby_tree::SourcePosition;
+use ruby_tree::{Name, SourcePosition};
 use token_lookahead::DoBlockOwner;
 use tree_builder::{ElseSubtree, Subtree, call_form, path_with, send};
 
@@ -127,6 +129,27 @@ fn call_turn<N: Nested>(
         }
         return Err(Failure::Syntax);
     }
+    called(
+        context, nested, parser, do_owner, position, safe, operand, name,
+    )
+}
+
+// The call of a method whose name was read, with what it is given.
+#[allow(clippy::too_many_arguments)]
+fn called<N: Nested>(
+    context: Context<'_>,
+    nested: &N,
+    parser: &mut Parser<'_>,
+    do_owner: DoBlockOwner,
+    position: SourcePosition,
+    safe: bool,
+    operand: Subtree,
+    name: Name,
+) -> Result<PostfixStep, Failure>
+    requires { N.IsReady nested.now }
+    ensures turns { (further : Tree → Parse operands.Start) (o : tree.SourcePosition) (b : Bool) (a : Tree) (m : Bytes) (w : Toks) (s : Scope) → safe ≡ b → position_of position ≡ o → Holds parser.old.symbols operand a → IsNamed parser.old.symbols name m → At parser.old w s → Turned further parser.old parser.new result (called context.entry.source.now (N.readers nested.now context.entry.source.now) further (do_owner_of do_owner) o b a m w s) }
+    ensures shorter { IfOk result (λ t. IsLonger t → length parser.new.rest.now ≤ length parser.old.rest.now) }
+{
     let ArgumentParts {
         arguments,
         spread,
