@@ -7,11 +7,11 @@ use Rattle.ruby_tree.specs.Rules.{own, next, position_with, is_mark, assigns}
 use Rattle.ruby_tree.specs.FaultLine.{count_of}
 use Rattle.reference_parser.specs.Answers.{taken, Parse, ◌>>=◌}
 use Rattle.reference_parser.specs.ReadItems.{Readers, items, items_from}
-use Rattle.reference_parser.specs.ReadOperands.{OperandForm, element, end_index}
+use Rattle.reference_parser.specs.ReadOperands.{Start, element, end_index}
 
 module _ (source : Bytes) (Q : Readers) where
   -- an index at w that begins with an argument
-  abbrev pub index_from : (Tree → Parse OperandForm) → Toks → Tree → Parse OperandForm
+  abbrev pub index_from : (Tree → Parse Start) → Toks → Tree → Parse Start
   index_from further o a w s = Q.arg own (next w) s >>= λ i q x.
       if is_mark source (codes "]") q && assigns source (next q) then taken (element a (position_with o w) i) (next q) x
       else (items_from source Q (items source Q (suc (count_of w)) own 1) own 0 (next w) (record { spread = false; tree = i }) q x >>= λ g p y. end_index source Q further o a w g p y)

@@ -15,7 +15,7 @@ ghost use Rattle.reference_parser.specs.ReadOperands.{postfixes, read_postfix, p
 ghost use Rattle.parse_parts.specs.Items.{HoldsGiven};
 ghost use Rattle.parse_state.specs.Standing.{At};
 ghost use Rattle.parse_state.specs.Gives.{Reads, ReadsWithin};
-ghost use Rattle.parse_operands.specs.Operands.{HoldsStart};
+ghost use Rattle.parse_state.specs.Forms.{HoldsOperandForm};
 ghost use Rattle.parse_operands.specs.Turns.{Turned, IsLonger};
 ghost use Rattle.parse_operands.specs.Indexes.{index_from};
 
@@ -24,9 +24,8 @@ use crate::behind::{
     index_read_here, index_set_here, position_from, position_here,
 };
 use crate::primaries::primary;
-use crate::starts::OperandForm;
 use parse_parts::{ArgumentParts, call_items, items, items_behind};
-use parse_state::{Context, Failure, Nested, Parser};
+use parse_state::{Context, Failure, Nested, OperandForm, Parser};
 use ruby_tree::SourcePosition;
 use token_lookahead::DoBlockOwner;
 use tree_builder::{ElseSubtree, Subtree, call_form, path_with, send};
@@ -48,7 +47,7 @@ pub fn postfix<N: Nested>(
     do_owner: DoBlockOwner,
 ) -> Result<OperandForm, Failure>
     requires { N.IsReady nested.now }
-    ensures reads { Reads HoldsStart parser.old parser.new result (read_postfix context.entry.source.now (N.readers nested.now context.entry.source.now) (do_owner_of do_owner)) }
+    ensures reads { Reads HoldsOperandForm parser.old parser.new result (read_postfix context.entry.source.now (N.readers nested.now context.entry.source.now) (do_owner_of do_owner)) }
 {
     let here = position_here(context, parser);
     let operand = primary(context, nested, parser, do_owner)?;
@@ -65,7 +64,7 @@ fn postfixes<N: Nested>(
     operand: Subtree,
 ) -> Result<OperandForm, Failure>
     requires { N.IsReady nested.now }
-    ensures reads { (o : Toks) (a : Tree) → position_of here ≡ position o → Holds parser.old.symbols operand a → ReadsWithin HoldsStart parser.old parser.new result (λ m. postfixes context.entry.source.now (N.readers nested.now context.entry.source.now) m (do_owner_of do_owner) o a) }
+    ensures reads { (o : Toks) (a : Tree) → position_of here ≡ position o → Holds parser.old.symbols operand a → ReadsWithin HoldsOperandForm parser.old parser.new result (λ m. postfixes context.entry.source.now (N.readers nested.now context.entry.source.now) m (do_owner_of do_owner) o a) }
 {
     let mut part = operand;
     loop {
@@ -86,7 +85,7 @@ fn go_on<N: Nested>(
     operand: Subtree,
 ) -> Result<PostfixStep, Failure>
     requires { N.IsReady nested.now }
-    ensures turns { (further : Tree → Parse operands.OperandForm) (o : Toks) (a : Tree) (w : Toks) (s : Scope) → position_of here ≡ position o → Holds parser.old.symbols operand a → At parser.old w s → Turned further parser.old parser.new result (postfix_at context.entry.source.now (N.readers nested.now context.entry.source.now) further (do_owner_of do_owner) o a w s) }
+    ensures turns { (further : Tree → Parse operands.Start) (o : Toks) (a : Tree) (w : Toks) (s : Scope) → position_of here ≡ position o → Holds parser.old.symbols operand a → At parser.old w s → Turned further parser.old parser.new result (postfix_at context.entry.source.now (N.readers nested.now context.entry.source.now) further (do_owner_of do_owner) o a w s) }
     ensures shorter { IfOk result (λ t. IsLonger t → length parser.new.rest.now < length parser.old.rest.now) }
 {
     if parser.is_dot(context) {
@@ -111,7 +110,7 @@ fn call_turn<N: Nested>(
     operand: Subtree,
 ) -> Result<PostfixStep, Failure>
     requires { N.IsReady nested.now }
-    ensures turns { (further : Tree → Parse operands.OperandForm) (o : Toks) (a : Tree) (w : Toks) (s : Scope) → position_of here ≡ position o → Holds parser.old.symbols operand a → At parser.old w s → Turned further parser.old parser.new result (read_call context.entry.source.now (N.readers nested.now context.entry.source.now) further (do_owner_of do_owner) o a w s) }
+    ensures turns { (further : Tree → Parse operands.Start) (o : Toks) (a : Tree) (w : Toks) (s : Scope) → position_of here ≡ position o → Holds parser.old.symbols operand a → At parser.old w s → Turned further parser.old parser.new result (read_call context.entry.source.now (N.readers nested.now context.entry.source.now) further (do_owner_of do_owner) o a w s) }
     ensures shorter { IfOk result (λ t. IsLonger t → length parser.new.rest.now ≤ length parser.old.rest.now - 1) }
 {
     let safe = parser.is_mark(context, "&.");
@@ -148,7 +147,7 @@ fn path_turn(
     here: SourcePosition,
     operand: Subtree,
 ) -> Result<PostfixStep, Failure>
-    ensures turns { (Q : Readers) (further : Tree → Parse operands.OperandForm) (o : Toks) (a : Tree) (w : Toks) (s : Scope) → position_of here ≡ position o → Holds parser.old.symbols operand a → At parser.old w s → Turned further parser.old parser.new result (path_at context.entry.source.now Q further o a w s) }
+    ensures turns { (Q : Readers) (further : Tree → Parse operands.Start) (o : Toks) (a : Tree) (w : Toks) (s : Scope) → position_of here ≡ position o → Holds parser.old.symbols operand a → At parser.old w s → Turned further parser.old parser.new result (path_at context.entry.source.now Q further o a w s) }
     ensures shorter { IfOk result (λ t. IsLonger t → length parser.new.rest.now ≤ length parser.old.rest.now - 1) }
 {
     if constant_behind(context, parser) {
@@ -170,7 +169,7 @@ fn index_turn<N: Nested>(
     operand: Subtree,
 ) -> Result<PostfixStep, Failure>
     requires { N.IsReady nested.now }
-    ensures turns { (further : Tree → Parse operands.OperandForm) (o : Toks) (a : Tree) (w : Toks) (s : Scope) → position_of here ≡ position o → Holds parser.old.symbols operand a → At parser.old w s → Turned further parser.old parser.new result (read_index context.entry.source.now (N.readers nested.now context.entry.source.now) further o a w s) }
+    ensures turns { (further : Tree → Parse operands.Start) (o : Toks) (a : Tree) (w : Toks) (s : Scope) → position_of here ≡ position o → Holds parser.old.symbols operand a → At parser.old w s → Turned further parser.old parser.new result (read_index context.entry.source.now (N.readers nested.now context.entry.source.now) further o a w s) }
     ensures shorter { IfOk result (λ t. IsLonger t → length parser.new.rest.now ≤ length parser.old.rest.now - 1) }
 {
     let position = position_from(context, parser, here);
@@ -192,7 +191,7 @@ fn index_from<N: Nested>(
     operand: Subtree,
 ) -> Result<PostfixStep, Failure>
     requires { N.IsReady nested.now }
-    ensures turns { (further : Tree → Parse operands.OperandForm) (o : Toks) (a : Tree) (v : Toks) (s : Scope) → position_of position ≡ test.position_with o v → Holds parser.old.symbols operand a → At parser.old (next v) s → Turned further parser.old parser.new result (index_from context.entry.source.now (N.readers nested.now context.entry.source.now) further o a v s) }
+    ensures turns { (further : Tree → Parse operands.Start) (o : Toks) (a : Tree) (v : Toks) (s : Scope) → position_of position ≡ test.position_with o v → Holds parser.old.symbols operand a → At parser.old (next v) s → Turned further parser.old parser.new result (index_from context.entry.source.now (N.readers nested.now context.entry.source.now) further o a v s) }
     ensures shorter { IfOk result (λ t. IsLonger t → length parser.new.rest.now ≤ length parser.old.rest.now) }
 {
     let first_spot = position_here(context, parser);
@@ -220,7 +219,7 @@ fn end_index(
     operand: Subtree,
     given: ArgumentParts,
 ) -> Result<PostfixStep, Failure>
-    ensures turns { (Q : Readers) (further : Tree → Parse operands.OperandForm) (o : Toks) (a : Tree) (v : Toks) (g : Given) (w : Toks) (s : Scope) → position_of position ≡ test.position_with o v → Holds parser.old.symbols operand a → HoldsGiven parser.old.symbols given g → At parser.old w s → Turned further parser.old parser.new result (end_index context.entry.source.now Q further o a v g w s) }
+    ensures turns { (Q : Readers) (further : Tree → Parse operands.Start) (o : Toks) (a : Tree) (v : Toks) (g : Given) (w : Toks) (s : Scope) → position_of position ≡ test.position_with o v → Holds parser.old.symbols operand a → HoldsGiven parser.old.symbols given g → At parser.old w s → Turned further parser.old parser.new result (end_index context.entry.source.now Q further o a v g w s) }
     ensures shorter { IfOk result (λ t. IsLonger t → length parser.new.rest.now ≤ length parser.old.rest.now) }
 {
     if index_read_here(context, parser) {

@@ -18,7 +18,7 @@ ghost use Rattle.parse_operators.specs.Levels.{level_of, levels_of, operation_of
 use crate::operations::{BinaryOperation, made_with};
 use crate::precedence::PrecedenceLevel;
 use crate::prefixes::minus;
-use parse_state::{Context, Failure, Nested, Parser};
+use parse_state::{Context, Failure, Nested, Operands, Parser};
 use ruby_tree::SourcePosition;
 use token_lookahead::DoBlockOwner;
 use tree_builder::{ElseSubtree, Subtree};
@@ -28,7 +28,7 @@ use tree_builder::{ElseSubtree, Subtree};
 /// # Errors
 ///
 /// Where the grammar derives none here, where symbols nest too deep, and where there is not memory enough.
-pub fn level<N: Nested>(
+pub fn level<N: Operands>(
     context: Context<'_>,
     nested: &N,
     parser: &mut Parser<'_>,
@@ -46,7 +46,7 @@ pub fn level<N: Nested>(
 /// # Errors
 ///
 /// As [`level`].
-pub fn climb<N: Nested>(
+pub fn climb<N: Operands>(
     context: Context<'_>,
     nested: &N,
     parser: &mut Parser<'_>,
@@ -63,7 +63,7 @@ pub fn climb<N: Nested>(
 
 // An operand with the operators of these levels behind it.
 #[cycle(levels)]
-fn operand<N: Nested>(
+fn operand<N: Operands>(
     context: Context<'_>,
     nested: &N,
     parser: &mut Parser<'_>,
@@ -80,7 +80,7 @@ fn operand<N: Nested>(
 
 // The operators of these levels behind an operand, the tightest first.
 #[cycle(levels)]
-fn over<N: Nested>(
+fn over<N: Operands>(
     context: Context<'_>,
     nested: &N,
     parser: &mut Parser<'_>,
@@ -102,7 +102,7 @@ fn over<N: Nested>(
 // The operators of one level behind an operand.
 #[cycle(levels)]
 #[allow(clippy::too_many_arguments)]
-fn at_level<N: Nested>(
+fn at_level<N: Operands>(
     context: Context<'_>,
     nested: &N,
     parser: &mut Parser<'_>,
@@ -126,7 +126,7 @@ fn at_level<N: Nested>(
 // The operators of a level that joins operands to the left.
 #[cycle(levels)]
 #[allow(clippy::too_many_arguments)]
-fn rest<N: Nested>(
+fn rest<N: Operands>(
     context: Context<'_>,
     nested: &N,
     parser: &mut Parser<'_>,
@@ -159,7 +159,7 @@ fn joins_here(context: Context<'_>, parser: &Parser<'_>, level: PrecedenceLevel)
 
 // One comparison, or none.
 #[cycle(levels)]
-fn compared<N: Nested>(
+fn compared<N: Operands>(
     context: Context<'_>,
     nested: &N,
     parser: &mut Parser<'_>,
@@ -188,7 +188,7 @@ fn compared<N: Nested>(
 
 // One range, or none.
 #[cycle(levels)]
-fn ranged<N: Nested>(
+fn ranged<N: Operands>(
     context: Context<'_>,
     nested: &N,
     parser: &mut Parser<'_>,
@@ -218,7 +218,7 @@ fn ranged<N: Nested>(
 // The operator that stands here, and its second operand.
 #[cycle(levels)]
 #[allow(clippy::too_many_arguments)]
-fn turn<N: Nested>(
+fn turn<N: Operands>(
     context: Context<'_>,
     nested: &N,
     parser: &mut Parser<'_>,

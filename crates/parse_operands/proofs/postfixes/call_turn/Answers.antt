@@ -3,7 +3,7 @@ use Rattle.tree_builder.proofs.GoesOn.{later, named_later}
 use Rattle.reference_parser.specs.Answers.{fault}
 use Rattle.reference_parser.specs.ReadOperands.{read_call}
 use Rattle.parse_state.proofs.Steps.{here, later_same, later_then, later_of}
-use Rattle.parse_operands.specs.Operands.{holds_attribute}
+use Rattle.parse_state.specs.Forms.{holds_attribute}
 use Rattle.parse_operands.specs.Turns.{longer, ended, no_syntax}
 use Rattle.parse_operands.proofs.Turning.{turn_from, turn_yes, turn_no, turn_handed, turn_wanting, turn_then, turn_failed, turn_found, turn_missed, command_as, call_as, found_later}
 use Rattle.parse_operands.proofs.Counts.{shrinks}
