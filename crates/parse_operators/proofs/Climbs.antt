@@ -63,8 +63,8 @@ module _ (source : Bytes) (Q : Readers) (d : DoBlockOwner) (o : Toks) (a : Tree)
   one_more vs e i less read on = climbed (levels_next vs e i less) (and_then read on)
 
   -- all levels
-  pub all_over : (vs : List PrecedenceLevel) → Gives Holds p q result (climb source Q (levels_of (take (length vs) vs)) d o a w s) → Gives Holds p q result (climb source Q (levels_of vs) d o a w s)
-  all_over vs g = named (ap (λ (us : List PrecedenceLevel). climb source Q (levels_of us) d o a w s) (sym (take-length vs))) g
+  pub all_over : (vs : List PrecedenceLevel) (i : ℕ) → i ≡ length vs → Gives Holds p q result (climb source Q (levels_of (take i vs)) d o a w s) → Gives Holds p q result (climb source Q (levels_of vs) d o a w s)
+  all_over vs i is g = named (ap (λ (us : List PrecedenceLevel). climb source Q (levels_of us) d o a w s) (sym (ap (λ (n : ℕ). take n vs) is ∙ take-length vs))) g
 
 -- where a level fails, so do those behind it
 module _ (source : Bytes) (Q : Readers) (d : DoBlockOwner) (o : Toks) (a : Tree) (w : Toks) (s : Scope) {p q : Parser} {e : Failure} where

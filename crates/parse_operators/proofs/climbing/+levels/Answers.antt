@@ -34,7 +34,7 @@ pub over-loop-index-preserved : goal.over-loop-index-preserved
 over-loop-index-preserved g t c = λ o a at h w s b. one_more c.args.context.source.now (g.N.Nested.readers c.args.nested.now c.args.context.source.now) (do_owner_of c.args.do_owner) o a w s c.args.levels.now level.Product c.loop-index.index (omega arith) (c.loop-index.invariant o a at h w s b) (λ x r z n k. c.in_ok-left.ensures.reads o x at k r z n)
 
 pub over-returns : goal.over-returns
-over-returns g t c = record { reads = λ o a at h w s b. all_over c.args.context.source.now (g.N.Nested.readers c.args.nested.now c.args.context.source.now) (do_owner_of c.args.do_owner) o a w s c.args.levels.now (c.loop-index.invariant o a at h w s b) }
+over-returns g t c = record { reads = λ o a at h w s b. all_over c.args.context.source.now (g.N.Nested.readers c.args.nested.now c.args.context.source.now) (do_owner_of c.args.do_owner) o a w s c.args.levels.now c.loop-index.index (omega arith) (c.loop-index.invariant o a at h w s b) }
 
 pub compared-returns-then-is_equality : goal.compared-returns-then-is_equality
 unfolding compare
