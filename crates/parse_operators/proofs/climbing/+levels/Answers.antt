@@ -4,7 +4,7 @@ use Rattle.token_lookahead.specs.Lookaheads.{do_owner_of}
 use Rattle.tree_builder.proofs.GoesOn.{later}
 use Rattle.reference_parser.specs.ReadLevels.{compare, ranged, read_level}
 use Rattle.parse_state.specs.Gives.{gave}
-use Rattle.parse_state.proofs.Steps.{here, later_same, later_then, later_of, from, named, yes, no, and_then, failed, handed}
+use Rattle.parse_state.proofs.Steps.{here, later_same, from, named, yes, no, and_then, failed, handed}
 use Rattle.parse_state.proofs.Seen.{sees, seen_in}
 use Rattle.parse_operators.specs.declared.precedence.PrecedenceLevel.TheVariants as level
 use Rattle.parse_operators.specs.Levels.{levels_of}
