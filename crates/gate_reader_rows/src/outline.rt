@@ -19,7 +19,11 @@ use words::{
 ///
 /// A call is `(send RECEIVER NAME ARGUMENTS)`, with `_` where it has no receiver; statements are `{..}`, an array is `[..]`, and a body is
 /// `(|PARAMETERS| STATEMENTS)`. What is spread has a `*`, a block value a `&`.
-pub fn outline(alloc: Global, program: &Program, has_positions: bool) -> Result<Vec<u8>, AllocError> {
+pub fn outline(
+    alloc: Global,
+    program: &Program,
+    has_positions: bool,
+) -> Result<Vec<u8>, AllocError> {
     let mut outliner = Outliner {
         symbols: &program.symbols,
         has_positions,

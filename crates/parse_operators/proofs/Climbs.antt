@@ -43,8 +43,8 @@ module _ (source : Bytes) where
   joins_some v (t ∷ ts) is = omega arith
 
 -- the levels up to one more
-levels_next : (vs : List PrecedenceLevel) (v : PrecedenceLevel) (i : ℕ) → i < length vs → v ≡ get_or vs i v → levels_of (take (i + 1) vs) ≡ level_of v ∷ levels_of (take i vs)
-levels_next vs v i less is = ap reverse (map_more level_of vs i v less) ∙ reverse-append (map level_of (take i vs)) (level_of (get_or vs i v) ∷ []) ∙ ap (λ (u : PrecedenceLevel). level_of u ∷ levels_of (take i vs)) (sym is)
+levels_next : (vs : List PrecedenceLevel) (e : PrecedenceLevel) (i : ℕ) → i < length vs → levels_of (take (i + 1) vs) ≡ level_of (get_or vs i e) ∷ levels_of (take i vs)
+levels_next vs e i less = ap reverse (map_more level_of vs i e less) ∙ reverse-append (map level_of (take i vs)) (level_of (get_or vs i e) ∷ [])
 
 levels_behind : (vs : List PrecedenceLevel) (i : ℕ) → levels_of vs ≡ levels_of (drop i vs) ++ levels_of (take i vs)
 levels_behind vs i = ap levels_of (sym (take-append-drop i vs)) ∙ ap reverse (map-append level_of (take i vs) (drop i vs)) ∙ reverse-append (map level_of (take i vs)) (map level_of (drop i vs))
@@ -59,12 +59,12 @@ module _ (source : Bytes) (Q : Readers) (d : DoBlockOwner) (o : Toks) (a : Tree)
   climbed is g = named (ap (λ (us : List reader.Level). climb source Q us d o a w s) is) g
 
   -- one level more, behind what was read of those before it
-  pub one_more : {u : Parser} {x : Subtree} {v : PrecedenceLevel} (vs : List PrecedenceLevel) (i : ℕ) → i < length vs → v ≡ get_or vs i v → Gives Holds p u (Ok x) (climb source Q (levels_of (take i vs)) d o a w s) → ((t : Tree) (r : Toks) (z : Scope) → At u r z → Holds u.symbols x t → Gives Holds u q result (at_level source Q (level_of v) (read_level source Q (levels_of (take i vs)) d) d o t r z)) → Gives Holds p q result (climb source Q (levels_of (take (i + 1) vs)) d o a w s)
-  one_more {u} {x} {v} vs i less is read on = climbed (levels_next vs v i less is) (and_then read on)
+  pub one_more : {u : Parser} {x : Subtree} (vs : List PrecedenceLevel) (e : PrecedenceLevel) (i : ℕ) → i < length vs → Gives Holds p u (Ok x) (climb source Q (levels_of (take i vs)) d o a w s) → ((t : Tree) (r : Toks) (z : Scope) → At u r z → Holds u.symbols x t → Gives Holds u q result (at_level source Q (level_of (get_or vs i e)) (read_level source Q (levels_of (take i vs)) d) d o t r z)) → Gives Holds p q result (climb source Q (levels_of (take (i + 1) vs)) d o a w s)
+  one_more vs e i less read on = climbed (levels_next vs e i less) (and_then read on)
 
   -- all levels
-  pub all_over : (vs : List PrecedenceLevel) → Gives Holds p q result (climb source Q (levels_of (take (length vs) vs)) d o a w s) → Gives Holds p q result (climb source Q (levels_of vs) d o a w s)
-  all_over vs g = named (ap (λ (us : List PrecedenceLevel). climb source Q (levels_of us) d o a w s) (sym (take-length vs))) g
+  pub all_over : (vs : List PrecedenceLevel) (i : ℕ) → i ≡ length vs → Gives Holds p q result (climb source Q (levels_of (take i vs)) d o a w s) → Gives Holds p q result (climb source Q (levels_of vs) d o a w s)
+  all_over vs i is g = named (ap (λ (us : List PrecedenceLevel). climb source Q (levels_of us) d o a w s) (sym (ap (λ (n : ℕ). take n vs) is ∙ take-length vs))) g
 
 -- where a level fails, so do those behind it
 module _ (source : Bytes) (Q : Readers) (d : DoBlockOwner) (o : Toks) (a : Tree) (w : Toks) (s : Scope) {p q : Parser} {e : Failure} where

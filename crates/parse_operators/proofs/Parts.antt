@@ -9,7 +9,7 @@ use Rattle.ruby_tree.specs.Rules.{Scope}
 use Rattle.ruby_tree.specs.Build.{sent, one}
 use Rattle.tree_builder.specs.declared.Subtree.{Subtree}
 use Rattle.tree_builder.specs.Subtrees.{IsNamed, Holds}
-use Rattle.reference_parser.specs.Answers.{taken}
+use Rattle.reference_parser.specs.Answers.{Answer, taken}
 use Rattle.reference_parser.specs.ReadItems.{Readers}
 use Rattle.reference_parser.specs.ReadOperands as read
 use Rattle.reference_parser.specs.ReadLevels.{operand_of}
@@ -36,6 +36,10 @@ named_by {T} {n} is h = subst (λ (k : Bytes). IsNamed T n k) is h
 pub not_ok : (result : Result Subtree Failure) (e : Failure) → IsErrAnd result (λ d. d ≡ e) → (x : Subtree) → result ≡ Ok x → ⊥
 not_ok (Ok y) e is x same = elim is [ ]
 not_ok (Err d) e is x same = cc
+
+-- what was read, by another name
+pub read_as : {p q : Parser} {b : Answer Tree} {x y : Result Subtree Failure} → x ≡ y → Gives Holds p q x b → Gives Holds p q y b
+read_as {p} {q} {b} is g = subst (λ (r : Result Subtree Failure). Gives Holds p q r b) is g
 
 -- an operator that is sent from another position
 module _ {p q : Parser} {result : Result Subtree Failure} {o u : SourcePosition} where

@@ -1,11 +1,12 @@
-use Rattle.std.proofs.Common.{◌≡◌, refl, sym, ap, ◌∙◌, ◌<◌, ◌≤◌, ◌-◌, length, arith}
+use Rattle.std.proofs.Common.{◌≡◌, refl, sym, ap, ◌∙◌, ◌<◌, ◌≤◌, ◌+◌, ◌-◌, length, arith}
 use Rattle.ruby_tree.specs.Rules.{position, mark_in, equality_marks}
 use Rattle.token_lookahead.specs.Lookaheads.{do_owner_of}
 use Rattle.tree_builder.proofs.GoesOn.{later}
 use Rattle.reference_parser.specs.ReadLevels.{compare, ranged, read_level}
 use Rattle.parse_state.specs.Gives.{gave}
-use Rattle.parse_state.proofs.Steps.{here, later_same, later_then, later_of, from, named, yes, no, and_then, failed, handed}
+use Rattle.parse_state.proofs.Steps.{here, later_same, from, named, yes, no, and_then, failed, handed}
 use Rattle.parse_state.proofs.Seen.{sees, seen_in}
+use Rattle.parse_operators.specs.declared.precedence.PrecedenceLevel.TheVariants as level
 use Rattle.parse_operators.specs.Levels.{levels_of}
 use Rattle.parse_operators.proofs.Climbs.{climbed_none, one_more, stopped_over, all_over, at_equality, at_ranges, at_conditional, at_others, turned_by}
 use Rattle.parse_operators.proofs.Joining.{begins, ends, goes_on, fails}
@@ -27,13 +28,13 @@ pub over-loop-index-init : goal.over-loop-index-init
 over-loop-index-init g t c = λ o a at h w s b. climbed_none _ _ _ o a w s refl (gave b (later_same _) h)
 
 pub over-returns-in_err-left : goal.over-returns-in_err-left
-over-returns-in_err-left g t c = record { reads = λ o a at h w s b. handed _ _ c.from_residual.ensures.1 (stopped_over _ _ _ o a w s _ _ (one_more _ _ _ o a w s _ _ refl c.loop-index.level.is (c.loop-index.invariant o a at h w s b) (λ x r z n k. c.in_err-left.ensures.reads o x at k r z n))) }
+over-returns-in_err-left g t c = record { reads = λ o a at h w s b. handed _ _ c.from_residual.ensures.1 (stopped_over c.args.context.source.now (g.N.Nested.readers c.args.nested.now c.args.context.source.now) (do_owner_of c.args.do_owner) o a w s c.args.levels.now (c.loop-index.index + 1) (one_more c.args.context.source.now (g.N.Nested.readers c.args.nested.now c.args.context.source.now) (do_owner_of c.args.do_owner) o a w s c.args.levels.now level.Product c.loop-index.index (omega arith) (c.loop-index.invariant o a at h w s b) (λ x r z n k. c.in_err-left.ensures.reads o x at k r z n))) }
 
 pub over-loop-index-preserved : goal.over-loop-index-preserved
-over-loop-index-preserved g t c = λ o a at h w s b. one_more _ _ _ o a w s _ _ refl c.loop-index.level.is (c.loop-index.invariant o a at h w s b) (λ x r z n k. c.in_ok-left.ensures.reads o x at k r z n)
+over-loop-index-preserved g t c = λ o a at h w s b. one_more c.args.context.source.now (g.N.Nested.readers c.args.nested.now c.args.context.source.now) (do_owner_of c.args.do_owner) o a w s c.args.levels.now level.Product c.loop-index.index (omega arith) (c.loop-index.invariant o a at h w s b) (λ x r z n k. c.in_ok-left.ensures.reads o x at k r z n)
 
 pub over-returns : goal.over-returns
-over-returns g t c = record { reads = λ o a at h w s b. all_over _ _ _ o a w s _ (c.loop-index.invariant o a at h w s b) }
+over-returns g t c = record { reads = λ o a at h w s b. all_over c.args.context.source.now (g.N.Nested.readers c.args.nested.now c.args.context.source.now) (do_owner_of c.args.do_owner) o a w s c.args.levels.now c.loop-index.index (omega arith) (c.loop-index.invariant o a at h w s b) }
 
 pub compared-returns-then-is_equality : goal.compared-returns-then-is_equality
 unfolding compare
