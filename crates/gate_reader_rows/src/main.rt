@@ -1,15 +1,17 @@
 //! Prints texts of Ruby with what the reader gives for them: a table whose rows are compared as text.
 //!
 //! A line of the input that begins with `"` is a row, a text as a string of Rust. It is printed with its tree, or the line of its fault,
-//! behind it. Each other line is printed as it stands; some say what the rows behind them show (`Form`).
+//! behind it. So is one that begins with `repeat "`, a text that repeats a part; where it has a tree, that is not printed whole. Each
+//! other line is printed as it stands; some say what the rows behind them show (`Form`).
 #![tactic(auto)]
 
 mod escapes;
 mod outline;
 mod pieces;
+mod repeats;
 mod rows;
 
-use rows::{Form, answer};
+use rows::{Form, answer, repeated_answer};
 use std::io;
 use std::io::{BufRead, BufReader, BufWriter, Write};
 
@@ -21,6 +23,8 @@ fn main(rt: HostRuntime) -> anyhow::Result<()> {
         let line = line?;
         if line.as_str().starts_with('"') {
             out.write_all(answer(alloc, form, line.as_str())?.as_slice())?;
+        } else if line.as_str().starts_with("repeat \"") {
+            out.write_all(repeated_answer(alloc, form, line.as_str())?.as_slice())?;
         } else {
             form = form.behind(line.as_str());
             out.write_all(line.as_bytes())?;

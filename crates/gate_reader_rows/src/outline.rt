@@ -19,10 +19,14 @@ use words::{
 ///
 /// A call is `(send RECEIVER NAME ARGUMENTS)`, with `_` where it has no receiver; statements are `{..}`, an array is `[..]`, and a body is
 /// `(|PARAMETERS| STATEMENTS)`. What is spread has a `*`, a block value a `&`.
-pub fn outline(alloc: Global, program: &Program, has_spots: bool) -> Result<Vec<u8>, AllocError> {
+pub fn outline(
+    alloc: Global,
+    program: &Program,
+    has_positions: bool,
+) -> Result<Vec<u8>, AllocError> {
     let mut outliner = Outliner {
         symbols: &program.symbols,
-        has_spots,
+        has_positions,
         pieces: Pieces::new(alloc),
     };
     outliner.tree(&program.root);
@@ -33,7 +37,7 @@ pub fn outline(alloc: Global, program: &Program, has_spots: bool) -> Result<Vec<
 #[derive(Drop)]
 struct Outliner<'a> {
     symbols: &'a SymbolTable,
-    has_spots: bool,
+    has_positions: bool,
     pieces: Pieces,
 }
 

@@ -3,6 +3,7 @@
 use crate::escapes::{escaped, unescaped};
 use crate::outline::outline;
 use crate::pieces::Pieces;
+use crate::repeats::repeated;
 use anyhow::{Result, bail};
 use ruby_reader::{ReadError, read_program};
 use std::alloc::Global;
@@ -30,7 +31,7 @@ impl Form {
     }
 
     /// Whether it shows where each node stands.
-    fn has_spots(self) -> bool {
+    fn has_positions(self) -> bool {
         matches!(self, Form::SourcePositions)
     }
 
@@ -52,25 +53,50 @@ pub fn answer(alloc: Global, form: Form, row: &str) -> Result<Vec<u8>> {
     let Some(text) = unescaped(alloc, row)? else {
         bail!("no string: {row}");
     };
+    let given = match read_program(alloc, text.as_bytes()) {
+        Ok(program) => {
+            let tree = outline(alloc, &program, form.has_positions())?;
+            escaped(alloc, tree.as_slice())?
+        }
+        Err(error) => fault(alloc, form, error)?,
+    };
+    line_of(alloc, row, given.as_slice())
+}
+
+/// What is printed for a row whose text repeats a part: the row as it stands, and behind it that its text has a tree, or the line of its
+/// fault.
+///
+/// # Errors
+///
+/// Where the row has another form, or there is not memory enough.
+pub fn repeated_answer(alloc: Global, form: Form, row: &str) -> Result<Vec<u8>> {
+    let Some(text) = repeated(alloc, row)? else {
+        bail!("no text that repeats a part: {row}");
+    };
+    let given = match read_program(alloc, text.as_slice()) {
+        Ok(_) => Vec::from_slice(alloc, b"tree")?,
+        Err(error) => fault(alloc, form, error)?,
+    };
+    line_of(alloc, row, given.as_slice())
+}
+
+/// A row, and what the reader gives for its text.
+fn line_of(alloc: Global, row: &str, given: &[u8]) -> Result<Vec<u8>> {
     let mut line = Vec::from_slice(alloc, row.as_bytes())?;
     line.extend_from_slice(b"  ->  ")?;
-    line.extend_from_slice(reading(alloc, form, text.as_bytes())?.as_slice())?;
+    line.extend_from_slice(given)?;
     Ok(line)
 }
 
-/// What the reader gives for a text.
-fn reading(alloc: Global, form: Form, text: &[u8]) -> Result<Vec<u8>> {
-    match read_program(alloc, text) {
-        Ok(program) => {
-            let tree = outline(alloc, &program, form.has_spots())?;
-            Ok(escaped(alloc, tree.as_slice())?)
-        }
-        Err(ReadError::Syntax(fault)) => {
+/// The line of a fault.
+fn fault(alloc: Global, form: Form, error: ReadError) -> Result<Vec<u8>> {
+    match error {
+        ReadError::Syntax(fault) => {
             let mut pieces = Pieces::new(alloc);
             pieces.put(form.before_line());
             pieces.number(fault.line);
             Ok(pieces.whole()?)
         }
-        Err(ReadError::NoMemory) => bail!("out of memory"),
+        ReadError::NoMemory => bail!("out of memory"),
     }
 }

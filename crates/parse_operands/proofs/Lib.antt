@@ -1,4 +1,3 @@
-pub mod Tools
 pub mod Turning
 pub mod Counts
 pub mod Signs

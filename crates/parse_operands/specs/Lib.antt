@@ -1,4 +1,3 @@
-pub mod Operands
 pub mod Turns
 pub mod Names
 pub mod Cases

@@ -12,9 +12,7 @@ mod marks;
 mod names;
 mod postfixes;
 mod primaries;
-mod starts;
 mod words;
 
 pub use postfixes::postfix;
 pub use primaries::primary;
-pub use starts::OperandForm;

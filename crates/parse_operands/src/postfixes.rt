@@ -1,13 +1,15 @@
 //! What stands behind an operand: calls, constants and indexes.
-ghost use Rattle.std.specs.Prelude.{◌≡◌, ◌<◌, ◌≤◌, ◌-◌, suc, length, IfOk};
+ghost use Rattle.std.specs.Prelude.{◌≡◌, Bool, ◌<◌, ◌≤◌, ◌-◌, suc, length, IfOk};
+ghost use Rattle.ruby_lexer.specs.Bytes.{Bytes};
 ghost use Rattle.ruby_lexer.specs.Pieces.{Toks};
+ghost use Rattle.ruby_tree.specs.Tree as tree;
 ghost use Rattle.ruby_tree.specs.Tree.{Tree};
 ghost use Rattle.ruby_tree.specs.Rules.{Scope, position, next};
 ghost use Rattle.ruby_tree.specs.Build.{Given};
 ghost use Rattle.ruby_tree.specs.Rules as test;
 ghost use Rattle.ruby_tree.specs.SourcePositions.{position_of};
 ghost use Rattle.token_lookahead.specs.Lookaheads.{do_owner_of};
-ghost use Rattle.tree_builder.specs.Subtrees.{Holds};
+ghost use Rattle.tree_builder.specs.Subtrees.{Holds, IsNamed};
 ghost use Rattle.reference_parser.specs.Answers.{Parse};
 ghost use Rattle.reference_parser.specs.ReadItems.{Readers};
 ghost use Rattle.reference_parser.specs.ReadOperands as operands;
@@ -15,19 +17,18 @@ ghost use Rattle.reference_parser.specs.ReadOperands.{postfixes, read_postfix, p
 ghost use Rattle.parse_parts.specs.Items.{HoldsGiven};
 ghost use Rattle.parse_state.specs.Standing.{At};
 ghost use Rattle.parse_state.specs.Gives.{Reads, ReadsWithin};
-ghost use Rattle.parse_operands.specs.Operands.{HoldsStart};
+ghost use Rattle.parse_state.specs.Forms.{HoldsOperandForm};
 ghost use Rattle.parse_operands.specs.Turns.{Turned, IsLonger};
-ghost use Rattle.parse_operands.specs.Indexes.{index_from};
+ghost use Rattle.parse_operands.specs.Indexes.{called, index_from};
 
 use crate::behind::{
     argument_behind, arguments_here, assigns_here, attribute_here, constant_behind, index_here,
     index_read_here, index_set_here, position_from, position_here,
 };
 use crate::primaries::primary;
-use crate::starts::OperandForm;
 use parse_parts::{ArgumentParts, call_items, items, items_behind};
-use parse_state::{Context, Failure, Nested, Parser};
-use ruby_tree::SourcePosition;
+use parse_state::{Context, Failure, Nested, OperandForm, Parser};
+use ruby_tree::{Name, SourcePosition};
 use token_lookahead::DoBlockOwner;
 use tree_builder::{ElseSubtree, Subtree, call_form, path_with, send};
 
@@ -48,7 +49,7 @@ pub fn postfix<N: Nested>(
     do_owner: DoBlockOwner,
 ) -> Result<OperandForm, Failure>
     requires { N.IsReady nested.now }
-    ensures reads { Reads HoldsStart parser.old parser.new result (read_postfix context.entry.source.now (N.readers nested.now context.entry.source.now) (do_owner_of do_owner)) }
+    ensures reads { Reads HoldsOperandForm parser.old parser.new result (read_postfix context.entry.source.now (N.readers nested.now context.entry.source.now) (do_owner_of do_owner)) }
 {
     let here = position_here(context, parser);
     let operand = primary(context, nested, parser, do_owner)?;
@@ -65,7 +66,7 @@ fn postfixes<N: Nested>(
     operand: Subtree,
 ) -> Result<OperandForm, Failure>
     requires { N.IsReady nested.now }
-    ensures reads { (o : Toks) (a : Tree) → position_of here ≡ position o → Holds parser.old.symbols operand a → ReadsWithin HoldsStart parser.old parser.new result (λ m. postfixes context.entry.source.now (N.readers nested.now context.entry.source.now) m (do_owner_of do_owner) o a) }
+    ensures reads { (o : Toks) (a : Tree) → position_of here ≡ position o → Holds parser.old.symbols operand a → ReadsWithin HoldsOperandForm parser.old parser.new result (λ m. postfixes context.entry.source.now (N.readers nested.now context.entry.source.now) m (do_owner_of do_owner) o a) }
 {
     let mut part = operand;
     loop {
@@ -86,7 +87,7 @@ fn go_on<N: Nested>(
     operand: Subtree,
 ) -> Result<PostfixStep, Failure>
     requires { N.IsReady nested.now }
-    ensures turns { (further : Tree → Parse operands.OperandForm) (o : Toks) (a : Tree) (w : Toks) (s : Scope) → position_of here ≡ position o → Holds parser.old.symbols operand a → At parser.old w s → Turned further parser.old parser.new result (postfix_at context.entry.source.now (N.readers nested.now context.entry.source.now) further (do_owner_of do_owner) o a w s) }
+    ensures turns { (further : Tree → Parse operands.Start) (o : Toks) (a : Tree) (w : Toks) (s : Scope) → position_of here ≡ position o → Holds parser.old.symbols operand a → At parser.old w s → Turned further parser.old parser.new result (postfix_at context.entry.source.now (N.readers nested.now context.entry.source.now) further (do_owner_of do_owner) o a w s) }
     ensures shorter { IfOk result (λ t. IsLonger t → length parser.new.rest.now < length parser.old.rest.now) }
 {
     if parser.is_dot(context) {
@@ -111,7 +112,7 @@ fn call_turn<N: Nested>(
     operand: Subtree,
 ) -> Result<PostfixStep, Failure>
     requires { N.IsReady nested.now }
-    ensures turns { (further : Tree → Parse operands.OperandForm) (o : Toks) (a : Tree) (w : Toks) (s : Scope) → position_of here ≡ position o → Holds parser.old.symbols operand a → At parser.old w s → Turned further parser.old parser.new result (read_call context.entry.source.now (N.readers nested.now context.entry.source.now) further (do_owner_of do_owner) o a w s) }
+    ensures turns { (further : Tree → Parse operands.Start) (o : Toks) (a : Tree) (w : Toks) (s : Scope) → position_of here ≡ position o → Holds parser.old.symbols operand a → At parser.old w s → Turned further parser.old parser.new result (read_call context.entry.source.now (N.readers nested.now context.entry.source.now) further (do_owner_of do_owner) o a w s) }
     ensures shorter { IfOk result (λ t. IsLonger t → length parser.new.rest.now ≤ length parser.old.rest.now - 1) }
 {
     let safe = parser.is_mark(context, "&.");
@@ -128,6 +129,27 @@ fn call_turn<N: Nested>(
         }
         return Err(Failure::Syntax);
     }
+    called(
+        context, nested, parser, do_owner, position, safe, operand, name,
+    )
+}
+
+// The call of a method whose name was read, with what it is given.
+#[allow(clippy::too_many_arguments)]
+fn called<N: Nested>(
+    context: Context<'_>,
+    nested: &N,
+    parser: &mut Parser<'_>,
+    do_owner: DoBlockOwner,
+    position: SourcePosition,
+    safe: bool,
+    operand: Subtree,
+    name: Name,
+) -> Result<PostfixStep, Failure>
+    requires { N.IsReady nested.now }
+    ensures turns { (further : Tree → Parse operands.Start) (o : tree.SourcePosition) (b : Bool) (a : Tree) (m : Bytes) (w : Toks) (s : Scope) → safe ≡ b → position_of position ≡ o → Holds parser.old.symbols operand a → IsNamed parser.old.symbols name m → At parser.old w s → Turned further parser.old parser.new result (called context.entry.source.now (N.readers nested.now context.entry.source.now) further (do_owner_of do_owner) o b a m w s) }
+    ensures shorter { IfOk result (λ t. IsLonger t → length parser.new.rest.now ≤ length parser.old.rest.now) }
+{
     let ArgumentParts {
         arguments,
         spread,
@@ -148,7 +170,7 @@ fn path_turn(
     here: SourcePosition,
     operand: Subtree,
 ) -> Result<PostfixStep, Failure>
-    ensures turns { (Q : Readers) (further : Tree → Parse operands.OperandForm) (o : Toks) (a : Tree) (w : Toks) (s : Scope) → position_of here ≡ position o → Holds parser.old.symbols operand a → At parser.old w s → Turned further parser.old parser.new result (path_at context.entry.source.now Q further o a w s) }
+    ensures turns { (Q : Readers) (further : Tree → Parse operands.Start) (o : Toks) (a : Tree) (w : Toks) (s : Scope) → position_of here ≡ position o → Holds parser.old.symbols operand a → At parser.old w s → Turned further parser.old parser.new result (path_at context.entry.source.now Q further o a w s) }
     ensures shorter { IfOk result (λ t. IsLonger t → length parser.new.rest.now ≤ length parser.old.rest.now - 1) }
 {
     if constant_behind(context, parser) {
@@ -170,7 +192,7 @@ fn index_turn<N: Nested>(
     operand: Subtree,
 ) -> Result<PostfixStep, Failure>
     requires { N.IsReady nested.now }
-    ensures turns { (further : Tree → Parse operands.OperandForm) (o : Toks) (a : Tree) (w : Toks) (s : Scope) → position_of here ≡ position o → Holds parser.old.symbols operand a → At parser.old w s → Turned further parser.old parser.new result (read_index context.entry.source.now (N.readers nested.now context.entry.source.now) further o a w s) }
+    ensures turns { (further : Tree → Parse operands.Start) (o : Toks) (a : Tree) (w : Toks) (s : Scope) → position_of here ≡ position o → Holds parser.old.symbols operand a → At parser.old w s → Turned further parser.old parser.new result (read_index context.entry.source.now (N.readers nested.now context.entry.source.now) further o a w s) }
     ensures shorter { IfOk result (λ t. IsLonger t → length parser.new.rest.now ≤ length parser.old.rest.now - 1) }
 {
     let position = position_from(context, parser, here);
@@ -192,7 +214,7 @@ fn index_from<N: Nested>(
     operand: Subtree,
 ) -> Result<PostfixStep, Failure>
     requires { N.IsReady nested.now }
-    ensures turns { (further : Tree → Parse operands.OperandForm) (o : Toks) (a : Tree) (v : Toks) (s : Scope) → position_of position ≡ test.position_with o v → Holds parser.old.symbols operand a → At parser.old (next v) s → Turned further parser.old parser.new result (index_from context.entry.source.now (N.readers nested.now context.entry.source.now) further o a v s) }
+    ensures turns { (further : Tree → Parse operands.Start) (o : Toks) (a : Tree) (v : Toks) (s : Scope) → position_of position ≡ test.position_with o v → Holds parser.old.symbols operand a → At parser.old (next v) s → Turned further parser.old parser.new result (index_from context.entry.source.now (N.readers nested.now context.entry.source.now) further o a v s) }
     ensures shorter { IfOk result (λ t. IsLonger t → length parser.new.rest.now ≤ length parser.old.rest.now) }
 {
     let first_spot = position_here(context, parser);
@@ -220,7 +242,7 @@ fn end_index(
     operand: Subtree,
     given: ArgumentParts,
 ) -> Result<PostfixStep, Failure>
-    ensures turns { (Q : Readers) (further : Tree → Parse operands.OperandForm) (o : Toks) (a : Tree) (v : Toks) (g : Given) (w : Toks) (s : Scope) → position_of position ≡ test.position_with o v → Holds parser.old.symbols operand a → HoldsGiven parser.old.symbols given g → At parser.old w s → Turned further parser.old parser.new result (end_index context.entry.source.now Q further o a v g w s) }
+    ensures turns { (Q : Readers) (further : Tree → Parse operands.Start) (o : Toks) (a : Tree) (v : Toks) (g : Given) (w : Toks) (s : Scope) → position_of position ≡ test.position_with o v → Holds parser.old.symbols operand a → HoldsGiven parser.old.symbols given g → At parser.old w s → Turned further parser.old parser.new result (end_index context.entry.source.now Q further o a v g w s) }
     ensures shorter { IfOk result (λ t. IsLonger t → length parser.new.rest.now ≤ length parser.old.rest.now) }
 {
     if index_read_here(context, parser) {

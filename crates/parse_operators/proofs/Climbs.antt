@@ -1,5 +1,7 @@
 -- What the levels are, one by one.
-use Rattle.std.proofs.Common.{◌≡◌, refl, sym, ap, ◌∙◌, subst, ◌<◌, true, false, List, [], ◌∷◌, length, Option, Some, Result, arith}
+use Rattle.std.proofs.Common.{◌≡◌, refl, sym, ap, ◌∙◌, subst, ℕ, ◌+◌, ◌<◌, true, false, List, [], ◌∷◌, ◌++◌, length, map, reverse, get_or, take, drop, Result, Ok, Err, arith}
+use Rattle.std.proofs.lemmas.List.{map_more, map-append, reverse-append, take-append-drop}
+use Rattle.std.proofs.Math.Seq.{take-length}
 use Rattle.ruby_lexer.specs.declared.token.Token.{Token}
 use Rattle.ruby_lexer.specs.Bytes.{Bytes}
 use Rattle.ruby_lexer.specs.Pieces.{Toks, none, seen_all}
@@ -13,12 +15,13 @@ use Rattle.reference_parser.specs.ReadLevels.{read_rest, compare, ranged, chosen
 use Rattle.reference_parser.specs.ReadLevels as reader
 use Rattle.parse_state.specs.declared.failures.Failure.{Failure}
 use Rattle.parse_state.specs.declared.standing.Parser.{Parser}
+use Rattle.parse_state.specs.Standing.{At}
 use Rattle.parse_state.specs.Gives.{Gives}
-use Rattle.parse_state.proofs.Steps.{named}
+use Rattle.parse_state.proofs.Steps.{named, and_then, failed}
 use Rattle.parse_operators.specs.declared.precedence.PrecedenceLevel.{PrecedenceLevel}
 use Rattle.parse_operators.specs.declared.precedence.PrecedenceLevel.TheVariants as level
 use Rattle.parse_operators.specs.declared.operations.BinaryOperation.{BinaryOperation}
-use Rattle.parse_operators.specs.Levels.{level_of, levels_of, up_to, operation_of, joins, make_of, one_turn}
+use Rattle.parse_operators.specs.Levels.{level_of, levels_of, operation_of, joins, make_of, one_turn}
 
 -- no operator stands where no token is left
 module _ (source : Bytes) where
@@ -39,20 +42,41 @@ module _ (source : Bytes) where
   joins_some v [] is = absurd (let e : true ≡ false = sym is ∙ joins_none v in cc)
   joins_some v (t ∷ ts) is = omega arith
 
--- the levels of a level that is there
-pub levels_more : (h : Option PrecedenceLevel) (v : PrecedenceLevel) (below : Option PrecedenceLevel) → h ≡ Some v → up_to v ≡ level_of v ∷ levels_of below → levels_of h ≡ level_of v ∷ levels_of below
-levels_more h v below is more = ap levels_of is ∙ more
+-- the levels up to one more
+levels_next : (vs : List PrecedenceLevel) (e : PrecedenceLevel) (i : ℕ) → i < length vs → levels_of (take (i + 1) vs) ≡ level_of (get_or vs i e) ∷ levels_of (take i vs)
+levels_next vs e i less = ap reverse (map_more level_of vs i e less) ∙ reverse-append (map level_of (take i vs)) (level_of (get_or vs i e) ∷ [])
+
+levels_behind : (vs : List PrecedenceLevel) (i : ℕ) → levels_of vs ≡ levels_of (drop i vs) ++ levels_of (take i vs)
+levels_behind vs i = ap levels_of (sym (take-append-drop i vs)) ∙ ap reverse (map-append level_of (take i vs) (drop i vs)) ∙ reverse-append (map level_of (take i vs)) (map level_of (drop i vs))
 
 module _ (source : Bytes) (Q : Readers) (d : DoBlockOwner) (o : Toks) (a : Tree) (w : Toks) (s : Scope) {p q : Parser} {result : Result Subtree Failure} where
-  pub climbed_none : {vs : List reader.PrecedenceLevel} → vs ≡ [] → Gives Holds p q result (taken a w s) → Gives Holds p q result (climb source Q vs d o a w s)
+  pub climbed_none : {vs : List reader.Level} → vs ≡ [] → Gives Holds p q result (taken a w s) → Gives Holds p q result (climb source Q vs d o a w s)
   unfolding climb
-  climbed_none is g = named (ap (λ (us : List reader.PrecedenceLevel). climb source Q us d o a w s) is) g
+  climbed_none is g = named (ap (λ (us : List reader.Level). climb source Q us d o a w s) is) g
 
-  pub climbed : {v : reader.PrecedenceLevel} {vs us : List reader.PrecedenceLevel} → vs ≡ v ∷ us → Gives Holds p q result (climb source Q us d o a w s >>= λ b r z. at_level source Q v (read_level source Q us d) d o b r z) → Gives Holds p q result (climb source Q vs d o a w s)
+  climbed : {v : reader.Level} {vs us : List reader.Level} → vs ≡ v ∷ us → Gives Holds p q result (climb source Q us d o a w s >>= λ b r z. at_level source Q v (read_level source Q us d) d o b r z) → Gives Holds p q result (climb source Q vs d o a w s)
   unfolding climb read_level
-  climbed is g = named (ap (λ (us : List reader.PrecedenceLevel). climb source Q us d o a w s) is) g
+  climbed is g = named (ap (λ (us : List reader.Level). climb source Q us d o a w s) is) g
 
-  -- what a level does, by what it is
+  -- one level more, behind what was read of those before it
+  pub one_more : {u : Parser} {x : Subtree} (vs : List PrecedenceLevel) (e : PrecedenceLevel) (i : ℕ) → i < length vs → Gives Holds p u (Ok x) (climb source Q (levels_of (take i vs)) d o a w s) → ((t : Tree) (r : Toks) (z : Scope) → At u r z → Holds u.symbols x t → Gives Holds u q result (at_level source Q (level_of (get_or vs i e)) (read_level source Q (levels_of (take i vs)) d) d o t r z)) → Gives Holds p q result (climb source Q (levels_of (take (i + 1) vs)) d o a w s)
+  one_more vs e i less read on = climbed (levels_next vs e i less) (and_then read on)
+
+  -- all levels
+  pub all_over : (vs : List PrecedenceLevel) (i : ℕ) → i ≡ length vs → Gives Holds p q result (climb source Q (levels_of (take i vs)) d o a w s) → Gives Holds p q result (climb source Q (levels_of vs) d o a w s)
+  all_over vs i is g = named (ap (λ (us : List PrecedenceLevel). climb source Q (levels_of us) d o a w s) (sym (ap (λ (n : ℕ). take n vs) is ∙ take-length vs))) g
+
+-- where a level fails, so do those behind it
+module _ (source : Bytes) (Q : Readers) (d : DoBlockOwner) (o : Toks) (a : Tree) (w : Toks) (s : Scope) {p q : Parser} {e : Failure} where
+  stopped_behind : (us vs : List reader.Level) → Gives Holds p q (Err e) (climb source Q vs d o a w s) → Gives Holds p q (Err e) (climb source Q (us ++ vs) d o a w s)
+  stopped_behind [] vs g = g
+  stopped_behind (u ∷ us) vs g = climbed source Q d o a w s refl (failed _ (stopped_behind us vs g))
+
+  pub stopped_over : (vs : List PrecedenceLevel) (i : ℕ) → Gives Holds p q (Err e) (climb source Q (levels_of (take i vs)) d o a w s) → Gives Holds p q (Err e) (climb source Q (levels_of vs) d o a w s)
+  stopped_over vs i g = named (ap (λ (us : List reader.Level). climb source Q us d o a w s) (levels_behind vs i)) (stopped_behind (levels_of (drop i vs)) (levels_of (take i vs)) g)
+
+-- what a level does, by what it is
+module _ (source : Bytes) (Q : Readers) (d : DoBlockOwner) (o : Toks) (a : Tree) (w : Toks) (s : Scope) {p q : Parser} {result : Result Subtree Failure} where
   module _ (O : Parse Tree) {v : PrecedenceLevel} where
     pub at_equality : v ≡ level.Equality → Gives Holds p q result (compare source O o a w s) → Gives Holds p q result (at_level source Q (level_of v) O d o a w s)
     unfolding at_level

@@ -9,7 +9,7 @@ use Rattle.ruby_tree.specs.Rules.{Scope}
 use Rattle.ruby_tree.specs.Build.{sent, one}
 use Rattle.tree_builder.specs.declared.Subtree.{Subtree}
 use Rattle.tree_builder.specs.Subtrees.{IsNamed, Holds}
-use Rattle.reference_parser.specs.Answers.{taken}
+use Rattle.reference_parser.specs.Answers.{Answer, taken}
 use Rattle.reference_parser.specs.ReadItems.{Readers}
 use Rattle.reference_parser.specs.ReadOperands as read
 use Rattle.reference_parser.specs.ReadLevels.{operand_of}
@@ -21,9 +21,9 @@ use Rattle.parse_state.specs.Gives.{Gives, gave, no_syntax, Expects, met}
 use Rattle.parse_state.proofs.Steps.{later_same}
 use Rattle.parse_operators.specs.declared.operations.BinaryOperation.{BinaryOperation}
 use Rattle.parse_operators.specs.Levels.{make_of}
-use Rattle.parse_operands.specs.declared.starts.OperandForm as declared_start
-use Rattle.parse_operands.specs.declared.starts.OperandForm.TheVariants as start
-use Rattle.parse_operands.specs.Operands.{HoldsStart, holds_operand, holds_attribute, holds_element, holds_command}
+use Rattle.parse_state.specs.declared.forms.OperandForm as declared_start
+use Rattle.parse_state.specs.declared.forms.OperandForm.TheVariants as start
+use Rattle.parse_state.specs.Forms.{HoldsOperandForm, holds_operand, holds_attribute, holds_element, holds_command}
 
 -- a tree at its position, and a text, by other names
 pub at_spot : {T : Texts} {x : Subtree} {o p : SourcePosition} {f : Form} → o ≡ p → Holds T x (at o f) → Holds T x (at p f)
@@ -37,6 +37,10 @@ pub not_ok : (result : Result Subtree Failure) (e : Failure) → IsErrAnd result
 not_ok (Ok y) e is x same = elim is [ ]
 not_ok (Err d) e is x same = cc
 
+-- what was read, by another name
+pub read_as : {p q : Parser} {b : Answer Tree} {x y : Result Subtree Failure} → x ≡ y → Gives Holds p q x b → Gives Holds p q y b
+read_as {p} {q} {b} is g = subst (λ (r : Result Subtree Failure). Gives Holds p q r b) is g
+
 -- an operator that is sent from another position
 module _ {p q : Parser} {result : Result Subtree Failure} {o u : SourcePosition} where
   pub sent_at : (a : Tree) (f : Bytes) (ts : Trees) (w : Toks) (s : Scope) → o ≡ u → Gives Holds p q result (taken (sent o a f ts) w s) → Gives Holds p q result (taken (sent u a f ts) w s)
@@ -47,14 +51,14 @@ module _ {p q : Parser} {result : Result Subtree Failure} {o u : SourcePosition}
 
 -- what a start is as an operand
 module _ (source : Bytes) (Q : Readers) where
-  held : {q : Parser} {x : Subtree} {t : read.OperandForm} {r : Toks} {z : Scope} → At q r z → HoldsStart q.symbols (start.Operand x) t → Gives Holds q q (Ok x) (operand_of source Q t r z)
+  held : {q : Parser} {x : Subtree} {t : read.Start} {r : Toks} {z : Scope} → At q r z → HoldsOperandForm q.symbols (start.Operand x) t → Gives Holds q q (Ok x) (operand_of source Q t r z)
   unfolding operand_of
   held {q} b (holds_operand h) = gave b (later_same q) h
 
-  pub operand_held : {q : Parser} {y : declared_start.OperandForm} {x : Subtree} {t : read.OperandForm} {r : Toks} {z : Scope} → y ≡ start.Operand x → At q r z → HoldsStart q.symbols y t → Gives Holds q q (Ok x) (operand_of source Q t r z)
-  operand_held {q} {y} {x} {t} is b h = held b (subst (λ (u : declared_start.OperandForm). HoldsStart q.symbols u t) is h)
+  pub operand_held : {q : Parser} {y : declared_start.OperandForm} {x : Subtree} {t : read.Start} {r : Toks} {z : Scope} → y ≡ start.Operand x → At q r z → HoldsOperandForm q.symbols y t → Gives Holds q q (Ok x) (operand_of source Q t r z)
+  operand_held {q} {y} {x} {t} is b h = held b (subst (λ (u : declared_start.OperandForm). HoldsOperandForm q.symbols u t) is h)
 
-  pub other_faults : {q : Parser} {y : declared_start.OperandForm} {t : read.OperandForm} (r : Toks) (z : Scope) → ((x : Subtree) → y ≡ start.Operand x → ⊥) → HoldsStart q.symbols y t → Gives Holds q q (Err failure.Syntax) (operand_of source Q t r z)
+  pub other_faults : {q : Parser} {y : declared_start.OperandForm} {t : read.Start} (r : Toks) (z : Scope) → ((x : Subtree) → y ≡ start.Operand x → ⊥) → HoldsOperandForm q.symbols y t → Gives Holds q q (Err failure.Syntax) (operand_of source Q t r z)
   unfolding operand_of
   other_faults r z none (holds_operand {x = x} h) = absurd (none x refl)
   other_faults r z none (holds_attribute h e n) = no_syntax

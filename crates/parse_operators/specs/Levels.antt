@@ -1,22 +1,21 @@
 -- The levels of binary operators, as the parser names them.
-use Rattle.std.specs.Prelude.{Bool, true, false, List, [], codes, Option, Some, None}
+use Rattle.std.specs.Prelude.{Bool, true, false, List, map, reverse, codes}
 use Rattle.ruby_lexer.specs.Bytes.{Bytes}
 use Rattle.ruby_lexer.specs.Pieces.{Toks}
 use Rattle.ruby_tree.specs.Tree.{Tree, at, range, no_more}
 use Rattle.ruby_tree.specs.Rules.{next, DoBlockOwner, position, position_with, product_marks, sum_marks, shift_marks, intersection_marks, union_marks, order_marks, mark_in, is_mark}
 use Rattle.ruby_tree.specs.Build.{one, sent, binary, conjunction, disjunction}
-use Rattle.reference_parser.specs.Answers.{taken, Parse, ◌>>=◌}
+use Rattle.reference_parser.specs.Answers.{Answer, taken, Parse, ◌>>=◌}
 use Rattle.reference_parser.specs.ReadItems.{Readers}
 use Rattle.reference_parser.specs.ReadOperands.{read_postfix}
-use Rattle.reference_parser.specs.ReadLevels.{up_to_product, up_to_sum, up_to_shift, up_to_intersection, up_to_union, up_to_order, up_to_equality, up_to_conjunctions, up_to_disjunctions, up_to_ranges, all_levels}
 use Rattle.reference_parser.specs.ReadLevels as reader
 use Rattle.parse_operators.specs.declared.precedence.PrecedenceLevel.{PrecedenceLevel}
 use Rattle.parse_operators.specs.declared.precedence.PrecedenceLevel.TheVariants as level
 use Rattle.parse_operators.specs.declared.operations.BinaryOperation.{BinaryOperation}
 use Rattle.parse_operators.specs.declared.operations.BinaryOperation.TheVariants as operation
 
--- the level as the list reader names it
-abbrev pub level_of : PrecedenceLevel → reader.PrecedenceLevel
+-- the level as the reference parser names it
+abbrev pub level_of : PrecedenceLevel → reader.Level
 level_of level.Product = reader.product
 level_of level.Sum = reader.sum
 level_of level.Shift = reader.shift
@@ -29,24 +28,9 @@ level_of level.Disjunctions = reader.disjunctions
 level_of level.Ranges = reader.ranges
 level_of level.Conditional = reader.conditional
 
--- the level, and those below it
-abbrev pub up_to : PrecedenceLevel → List reader.PrecedenceLevel
-up_to level.Product = up_to_product
-up_to level.Sum = up_to_sum
-up_to level.Shift = up_to_shift
-up_to level.Intersection = up_to_intersection
-up_to level.Union = up_to_union
-up_to level.Order = up_to_order
-up_to level.Equality = up_to_equality
-up_to level.Conjunctions = up_to_conjunctions
-up_to level.Disjunctions = up_to_disjunctions
-up_to level.Ranges = up_to_ranges
-up_to level.Conditional = all_levels
-
--- the same of a level that may be missing
-abbrev pub levels_of : Option PrecedenceLevel → List reader.PrecedenceLevel
-levels_of None = []
-levels_of (Some v) = up_to v
+-- levels, the tightest first, as the reference parser goes over them: the loosest first
+abbrev pub levels_of : List PrecedenceLevel → List reader.Level
+levels_of vs = reverse (map level_of vs)
 
 -- what one of those operators makes of its operands
 abbrev pub operation_of : PrecedenceLevel → BinaryOperation
@@ -76,9 +60,13 @@ module _ (source : Bytes) where
   make_of operation.Closed = λ o v a b. at (position o) (range a b false)
   make_of operation.HalfOpen = λ o v a b. at (position o) (range a b true)
 
+  -- The same of what was read behind the operator.
+  abbrev pub make_with : BinaryOperation → Toks → Toks → Tree → Answer Tree → Answer Tree
+  make_with p o v a b = b >>= λ t r z. taken (make_of p o v a t) r z
+
   -- The operator that stands here, and what O reads behind it, behind the operand a, which begins at o.
   abbrev pub one_turn : BinaryOperation → Parse Tree → Toks → Tree → Parse Tree
-  one_turn p O o a w s = O (next w) s >>= λ b r z. taken (make_of p o w a b) r z
+  one_turn p O o a w s = make_with p o w a (O (next w) s)
 
   -- an operand that is no attribute, element or command
   abbrev pub read_plain : Readers → DoBlockOwner → Parse Tree

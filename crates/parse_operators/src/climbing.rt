@@ -1,6 +1,7 @@
 //! Operators behind an operand, level by level.
 //!
-//! The functions call each other from a level down to the one below, and no further: as many operators as stand side by side are joined in a loop.
+//! A loop goes over the levels from the tightest on, and as many operators of a level as stand side by side are joined in a loop too: so the stack holds one call of these functions for each
+//! operand that stands to the right of an operator whose right operand is not yet read.
 ghost use Rattle.std.specs.Prelude.{◌≡◌, ◌<◌, ◌≤◌, ◌-◌, length, true, Ok};
 ghost use Rattle.ruby_lexer.specs.Pieces.{Toks};
 ghost use Rattle.ruby_tree.specs.Tree.{Tree};
@@ -14,10 +15,10 @@ ghost use Rattle.parse_state.specs.Standing.{At};
 ghost use Rattle.parse_state.specs.Gives.{Reads};
 ghost use Rattle.parse_operators.specs.Levels.{level_of, levels_of, operation_of, joins, make_of, one_turn};
 
-use crate::operations::{BinaryOperation, made};
+use crate::operations::{BinaryOperation, made_with};
 use crate::precedence::PrecedenceLevel;
 use crate::prefixes::minus;
-use parse_state::{Context, Failure, Nested, Parser};
+use parse_state::{Context, Failure, Nested, Operands, Parser};
 use ruby_tree::SourcePosition;
 use token_lookahead::DoBlockOwner;
 use tree_builder::{ElseSubtree, Subtree};
@@ -27,7 +28,7 @@ use tree_builder::{ElseSubtree, Subtree};
 /// # Errors
 ///
 /// Where the grammar derives none here, where symbols nest too deep, and where there is not memory enough.
-pub fn level<N: Nested>(
+pub fn level<N: Operands>(
     context: Context<'_>,
     nested: &N,
     parser: &mut Parser<'_>,
@@ -36,13 +37,8 @@ pub fn level<N: Nested>(
     requires { N.IsReady nested.now }
     ensures reads { Reads Holds parser.old parser.new result (read_level context.entry.source.now (N.readers nested.now context.entry.source.now) all_levels (do_owner_of do_owner)) }
 {
-    up_to(
-        context,
-        nested,
-        parser,
-        do_owner,
-        Some(PrecedenceLevel::Conditional),
-    )
+    let levels = PrecedenceLevel::all();
+    operand(context, nested, parser, do_owner, levels)
 }
 
 /// The binary operators behind an operand that begins at the position.
@@ -50,7 +46,7 @@ pub fn level<N: Nested>(
 /// # Errors
 ///
 /// As [`level`].
-pub fn climb<N: Nested>(
+pub fn climb<N: Operands>(
     context: Context<'_>,
     nested: &N,
     parser: &mut Parser<'_>,
@@ -61,73 +57,63 @@ pub fn climb<N: Nested>(
     requires { N.IsReady nested.now }
     ensures reads { (o : Toks) (a : Tree) → position_of here ≡ position o → Holds parser.old.symbols left a → Reads Holds parser.old parser.new result (reader.climb context.entry.source.now (N.readers nested.now context.entry.source.now) all_levels (do_owner_of do_owner) o a) }
 {
-    climb_to(
-        context,
-        nested,
-        parser,
-        do_owner,
-        Some(PrecedenceLevel::Conditional),
-        here,
-        left,
-    )
+    let levels = PrecedenceLevel::all();
+    over(context, nested, parser, do_owner, levels, here, left)
 }
 
-// An operand with the operators behind it, up to a level.
+// An operand with the operators of these levels behind it.
 #[cycle(levels)]
-fn up_to<N: Nested>(
+fn operand<N: Operands>(
     context: Context<'_>,
     nested: &N,
     parser: &mut Parser<'_>,
     do_owner: DoBlockOwner,
-    highest: Option<PrecedenceLevel>,
+    levels: &[PrecedenceLevel],
 ) -> Result<Subtree, Failure>
     requires { N.IsReady nested.now }
-    ensures reads { Reads Holds parser.old parser.new result (read_level context.entry.source.now (N.readers nested.now context.entry.source.now) (levels_of highest) (do_owner_of do_owner)) }
+    ensures reads { Reads Holds parser.old parser.new result (read_level context.entry.source.now (N.readers nested.now context.entry.source.now) (levels_of levels.now) (do_owner_of do_owner)) }
 {
     let here = parser.lookahead(context).position();
     let first = minus(context, nested, parser, do_owner)?;
-    climb_to(context, nested, parser, do_owner, highest, here, first)
+    over(context, nested, parser, do_owner, levels, here, first)
 }
 
-// The operators behind an operand, up to a level.
+// The operators of these levels behind an operand, the tightest first.
 #[cycle(levels)]
-fn climb_to<N: Nested>(
+fn over<N: Operands>(
     context: Context<'_>,
     nested: &N,
     parser: &mut Parser<'_>,
     do_owner: DoBlockOwner,
-    highest: Option<PrecedenceLevel>,
+    levels: &[PrecedenceLevel],
     here: SourcePosition,
-    left: Subtree,
+    mut left: Subtree,
 ) -> Result<Subtree, Failure>
     requires { N.IsReady nested.now }
-    ensures reads { (o : Toks) (a : Tree) → position_of here ≡ position o → Holds parser.old.symbols left a → Reads Holds parser.old parser.new result (reader.climb context.entry.source.now (N.readers nested.now context.entry.source.now) (levels_of highest) (do_owner_of do_owner) o a) }
+    ensures reads { (o : Toks) (a : Tree) → position_of here ≡ position o → Holds parser.old.symbols left a → Reads Holds parser.old parser.new result (reader.climb context.entry.source.now (N.readers nested.now context.entry.source.now) (levels_of levels.now) (do_owner_of do_owner) o a) }
 {
-    match highest {
-        None => Ok(left),
-        Some(level) => {
-            let below = level.below();
-            let left = climb_to(context, nested, parser, do_owner, below, here, left)?;
-            at_level(context, nested, parser, do_owner, level, below, here, left)
-        }
+    for (index, level) in levels.iter().enumerate() {
+        let below = &levels[..index];
+        left = at_level(context, nested, parser, do_owner, *level, below, here, left)?;
     }
+    Ok(left)
 }
 
 // The operators of one level behind an operand.
 #[cycle(levels)]
 #[allow(clippy::too_many_arguments)]
-fn at_level<N: Nested>(
+fn at_level<N: Operands>(
     context: Context<'_>,
     nested: &N,
     parser: &mut Parser<'_>,
     do_owner: DoBlockOwner,
     level: PrecedenceLevel,
-    below: Option<PrecedenceLevel>,
+    below: &[PrecedenceLevel],
     here: SourcePosition,
     left: Subtree,
 ) -> Result<Subtree, Failure>
     requires { N.IsReady nested.now }
-    ensures reads { (o : Toks) (a : Tree) → position_of here ≡ position o → Holds parser.old.symbols left a → Reads Holds parser.old parser.new result (reader.at_level context.entry.source.now (N.readers nested.now context.entry.source.now) (level_of level) (read_level context.entry.source.now (N.readers nested.now context.entry.source.now) (levels_of below) (do_owner_of do_owner)) (do_owner_of do_owner) o a) }
+    ensures reads { (o : Toks) (a : Tree) → position_of here ≡ position o → Holds parser.old.symbols left a → Reads Holds parser.old parser.new result (reader.at_level context.entry.source.now (N.readers nested.now context.entry.source.now) (level_of level) (read_level context.entry.source.now (N.readers nested.now context.entry.source.now) (levels_of below.now) (do_owner_of do_owner)) (do_owner_of do_owner) o a) }
 {
     match level {
         PrecedenceLevel::Equality => compared(context, nested, parser, do_owner, below, here, left),
@@ -140,18 +126,18 @@ fn at_level<N: Nested>(
 // The operators of a level that joins operands to the left.
 #[cycle(levels)]
 #[allow(clippy::too_many_arguments)]
-fn rest<N: Nested>(
+fn rest<N: Operands>(
     context: Context<'_>,
     nested: &N,
     parser: &mut Parser<'_>,
     do_owner: DoBlockOwner,
     level: PrecedenceLevel,
-    below: Option<PrecedenceLevel>,
+    below: &[PrecedenceLevel],
     here: SourcePosition,
     mut left: Subtree,
 ) -> Result<Subtree, Failure>
     requires { N.IsReady nested.now }
-    ensures reads { (o : Toks) (a : Tree) → position_of here ≡ position o → Holds parser.old.symbols left a → Reads Holds parser.old parser.new result (read_rest context.entry.source.now (joins context.entry.source.now level) (make_of context.entry.source.now (operation_of level)) (read_level context.entry.source.now (N.readers nested.now context.entry.source.now) (levels_of below) (do_owner_of do_owner)) o a) }
+    ensures reads { (o : Toks) (a : Tree) → position_of here ≡ position o → Holds parser.old.symbols left a → Reads Holds parser.old parser.new result (read_rest context.entry.source.now (joins context.entry.source.now level) (make_of context.entry.source.now (operation_of level)) (read_level context.entry.source.now (N.readers nested.now context.entry.source.now) (levels_of below.now) (do_owner_of do_owner)) o a) }
 {
     while joins_here(context, parser, level) {
         let operation = level.operation();
@@ -163,6 +149,7 @@ fn rest<N: Nested>(
 }
 
 // Whether an operator stands here that joins operands of this level to the left.
+#[inline(never)]
 fn joins_here(context: Context<'_>, parser: &Parser<'_>, level: PrecedenceLevel) -> bool
     ensures is { (w : Toks) (s : Scope) → At parser.now w s → result ≡ joins context.entry.source.now level w }
     ensures some { result ≡ true → 0 < length parser.now.rest.now }
@@ -172,17 +159,17 @@ fn joins_here(context: Context<'_>, parser: &Parser<'_>, level: PrecedenceLevel)
 
 // One comparison, or none.
 #[cycle(levels)]
-fn compared<N: Nested>(
+fn compared<N: Operands>(
     context: Context<'_>,
     nested: &N,
     parser: &mut Parser<'_>,
     do_owner: DoBlockOwner,
-    below: Option<PrecedenceLevel>,
+    below: &[PrecedenceLevel],
     here: SourcePosition,
     left: Subtree,
 ) -> Result<Subtree, Failure>
     requires { N.IsReady nested.now }
-    ensures reads { (o : Toks) (a : Tree) → position_of here ≡ position o → Holds parser.old.symbols left a → Reads Holds parser.old parser.new result (compare context.entry.source.now (read_level context.entry.source.now (N.readers nested.now context.entry.source.now) (levels_of below) (do_owner_of do_owner)) o a) }
+    ensures reads { (o : Toks) (a : Tree) → position_of here ≡ position o → Holds parser.old.symbols left a → Reads Holds parser.old parser.new result (compare context.entry.source.now (read_level context.entry.source.now (N.readers nested.now context.entry.source.now) (levels_of below.now) (do_owner_of do_owner)) o a) }
 {
     if parser.lookahead(context).is_equality() {
         let operation = BinaryOperation::Sent;
@@ -201,17 +188,17 @@ fn compared<N: Nested>(
 
 // One range, or none.
 #[cycle(levels)]
-fn ranged<N: Nested>(
+fn ranged<N: Operands>(
     context: Context<'_>,
     nested: &N,
     parser: &mut Parser<'_>,
     do_owner: DoBlockOwner,
-    below: Option<PrecedenceLevel>,
+    below: &[PrecedenceLevel],
     here: SourcePosition,
     left: Subtree,
 ) -> Result<Subtree, Failure>
     requires { N.IsReady nested.now }
-    ensures reads { (o : Toks) (a : Tree) → position_of here ≡ position o → Holds parser.old.symbols left a → Reads Holds parser.old parser.new result (reader.ranged context.entry.source.now (read_level context.entry.source.now (N.readers nested.now context.entry.source.now) (levels_of below) (do_owner_of do_owner)) o a) }
+    ensures reads { (o : Toks) (a : Tree) → position_of here ≡ position o → Holds parser.old.symbols left a → Reads Holds parser.old parser.new result (reader.ranged context.entry.source.now (read_level context.entry.source.now (N.readers nested.now context.entry.source.now) (levels_of below.now) (do_owner_of do_owner)) o a) }
 {
     if parser.is_mark(context, "..") {
         let operation = BinaryOperation::Closed;
@@ -231,27 +218,28 @@ fn ranged<N: Nested>(
 // The operator that stands here, and its second operand.
 #[cycle(levels)]
 #[allow(clippy::too_many_arguments)]
-fn turn<N: Nested>(
+fn turn<N: Operands>(
     context: Context<'_>,
     nested: &N,
     parser: &mut Parser<'_>,
     do_owner: DoBlockOwner,
     operation: BinaryOperation,
-    below: Option<PrecedenceLevel>,
+    below: &[PrecedenceLevel],
     here: SourcePosition,
     left: Subtree,
 ) -> Result<Subtree, Failure>
     requires { N.IsReady nested.now }
-    ensures reads { (o : Toks) (a : Tree) → position_of here ≡ position o → Holds parser.old.symbols left a → Reads Holds parser.old parser.new result (one_turn context.entry.source.now operation (read_level context.entry.source.now (N.readers nested.now context.entry.source.now) (levels_of below) (do_owner_of do_owner)) o a) }
+    ensures reads { (o : Toks) (a : Tree) → position_of here ≡ position o → Holds parser.old.symbols left a → Reads Holds parser.old parser.new result (one_turn context.entry.source.now operation (read_level context.entry.source.now (N.readers nested.now context.entry.source.now) (levels_of below.now) (do_owner_of do_owner)) o a) }
     ensures fewer { (x : Subtree) → result ≡ Ok x → length parser.new.rest.now ≤ length parser.old.rest.now - 1 }
 {
     let operator = parser.lookahead(context);
     parser.bump();
-    let right = up_to(context, nested, parser, do_owner, below)?;
-    made(context, parser, operation, here, operator, left, right)
+    let right = operand(context, nested, parser, do_owner, below);
+    made_with(context, parser, operation, here, operator, left, right)
 }
 
 // `? b : c` behind a condition, or nothing.
+#[inline(never)]
 fn chosen<N: Nested>(
     context: Context<'_>,
     nested: &N,

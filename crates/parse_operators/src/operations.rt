@@ -6,10 +6,11 @@ ghost use Rattle.ruby_tree.specs.Rules.{Scope, position};
 ghost use Rattle.ruby_tree.specs.Build.{one, sent, binary};
 ghost use Rattle.ruby_tree.specs.SourcePositions.{position_of};
 ghost use Rattle.tree_builder.specs.Subtrees.{Holds, HoldsAll};
-ghost use Rattle.reference_parser.specs.Answers.{taken};
+ghost use Rattle.reference_parser.specs.Answers.{Answer, taken};
+ghost use Rattle.parse_state.specs.declared.standing.Parser.{Parser};
 ghost use Rattle.parse_state.specs.Standing.{At, Later};
 ghost use Rattle.parse_state.specs.Gives.{Gives};
-ghost use Rattle.parse_operators.specs.Levels.{make_of};
+ghost use Rattle.parse_operators.specs.Levels.{make_of, make_with};
 
 use parse_state::{Context, Failure, Parser, position_with};
 use ruby_tree::SourcePosition;
@@ -33,8 +34,30 @@ pub enum BinaryOperation {
     HalfOpen,
 }
 
-/// The tree of an operation. The first operand begins at the position, and the operator is the first token of the lookahead.
-pub fn made(
+/// The tree of an operation, where its second operand was read. It stands apart from what reads that operand, whose call on the stack would be larger by all that lets a tree go.
+///
+/// # Errors
+///
+/// Where the second operand was not read, and where there is not memory enough.
+#[inline(never)]
+pub fn made_with(
+    context: Context<'_>,
+    parser: &mut Parser<'_>,
+    operation: BinaryOperation,
+    here: SourcePosition,
+    operator: Lookahead<'_>,
+    left: Subtree,
+    right: Result<Subtree, Failure>,
+) -> Result<Subtree, Failure>
+    ensures gives { (p : Parser) (o v : Toks) (a : Tree) (b : Answer Tree) → position_of here ≡ position o → operator.entry.source.now ≡ context.entry.source.now → seen_all operator.entry.rest.now ≡ v → Holds p.symbols left a → Gives Holds p parser.old right b → Gives Holds p parser.new result (make_with context.entry.source.now operation o v a b) }
+    ensures later { (p : Parser) (b : Answer Tree) (x : Subtree) → Gives Holds p parser.old right b → result ≡ Ok x → Later p parser.new }
+{
+    let right = right?;
+    made(context, parser, operation, here, operator, left, right)
+}
+
+// The tree of an operation. The first operand begins at the position, and the operator is the first token of the lookahead.
+fn made(
     context: Context<'_>,
     parser: &mut Parser<'_>,
     operation: BinaryOperation,
@@ -60,6 +83,7 @@ pub fn made(
 }
 
 /// An operator that is sent.
+#[inline(never)]
 pub fn operated(
     context: Context<'_>,
     parser: &mut Parser<'_>,
@@ -77,6 +101,7 @@ pub fn operated(
 }
 
 // `a != b`
+#[inline(never)]
 fn different(
     context: Context<'_>,
     parser: &mut Parser<'_>,
@@ -93,6 +118,7 @@ fn different(
 }
 
 /// An operator before its operand, which is sent.
+#[inline(never)]
 pub fn sent_alone(
     context: Context<'_>,
     parser: &mut Parser<'_>,

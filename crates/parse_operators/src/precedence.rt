@@ -1,7 +1,8 @@
 //! The levels, each above the one that binds tighter.
-ghost use Rattle.std.specs.Prelude.{◌≡◌, ◌∷◌};
+ghost use Rattle.std.specs.Prelude.{◌≡◌};
 ghost use Rattle.ruby_lexer.specs.Pieces.{seen_all};
-ghost use Rattle.parse_operators.specs.Levels.{level_of, up_to, levels_of, operation_of, joins};
+ghost use Rattle.reference_parser.specs.ReadLevels.{all_levels};
+ghost use Rattle.parse_operators.specs.Levels.{levels_of, operation_of, joins};
 
 use crate::operations::BinaryOperation;
 use token_lookahead::Lookahead;
@@ -34,23 +35,23 @@ pub enum PrecedenceLevel {
 }
 
 impl PrecedenceLevel {
-    /// The next tighter level.
-    pub fn below(self) -> Option<PrecedenceLevel>
-        ensures { up_to self ≡ level_of self ∷ levels_of result }
+    /// All of them, from the tightest on.
+    pub fn all() -> &'static [PrecedenceLevel]
+        ensures { levels_of result.now ≡ all_levels }
     {
-        match self {
-            PrecedenceLevel::Product => None,
-            PrecedenceLevel::Sum => Some(PrecedenceLevel::Product),
-            PrecedenceLevel::Shift => Some(PrecedenceLevel::Sum),
-            PrecedenceLevel::Intersection => Some(PrecedenceLevel::Shift),
-            PrecedenceLevel::Union => Some(PrecedenceLevel::Intersection),
-            PrecedenceLevel::Order => Some(PrecedenceLevel::Union),
-            PrecedenceLevel::Equality => Some(PrecedenceLevel::Order),
-            PrecedenceLevel::Conjunctions => Some(PrecedenceLevel::Equality),
-            PrecedenceLevel::Disjunctions => Some(PrecedenceLevel::Conjunctions),
-            PrecedenceLevel::Ranges => Some(PrecedenceLevel::Disjunctions),
-            PrecedenceLevel::Conditional => Some(PrecedenceLevel::Ranges),
-        }
+        &[
+            PrecedenceLevel::Product,
+            PrecedenceLevel::Sum,
+            PrecedenceLevel::Shift,
+            PrecedenceLevel::Intersection,
+            PrecedenceLevel::Union,
+            PrecedenceLevel::Order,
+            PrecedenceLevel::Equality,
+            PrecedenceLevel::Conjunctions,
+            PrecedenceLevel::Disjunctions,
+            PrecedenceLevel::Ranges,
+            PrecedenceLevel::Conditional,
+        ]
     }
 
     /// Whether an operator stands here that joins operands of this level to the left.

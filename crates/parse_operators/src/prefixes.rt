@@ -1,20 +1,24 @@
 //! Operators before an operand, and `**` behind one.
 ghost use Rattle.std.specs.Prelude.{◌≡◌, ◌&&◌, not, codes};
+ghost use Rattle.ruby_lexer.specs.Bytes.{Bytes};
 ghost use Rattle.ruby_lexer.specs.Pieces.{Toks};
 ghost use Rattle.ruby_tree.specs.Tree.{Tree};
 ghost use Rattle.ruby_tree.specs.Rules.{Scope, position, is_mark, is_negative};
 ghost use Rattle.ruby_tree.specs.SourcePositions.{position_of};
 ghost use Rattle.token_lookahead.specs.Lookaheads.{do_owner_of};
 ghost use Rattle.tree_builder.specs.Subtrees.{Holds};
-ghost use Rattle.reference_parser.specs.ReadLevels.{read_unary_operand, read_power, read_minus};
+ghost use Rattle.reference_parser.specs.ReadItems.{Readers};
+ghost use Rattle.reference_parser.specs.ReadOperands.{Start};
+ghost use Rattle.reference_parser.specs.ReadLevels.{operand_of, read_unary_operand, read_power, read_minus};
 ghost use Rattle.reference_parser.specs.ReadLevels as reader;
 ghost use Rattle.parse_state.specs.Standing.{At};
-ghost use Rattle.parse_state.specs.Gives.{Reads};
+ghost use Rattle.parse_state.specs.declared.standing.Parser.{Parser};
+ghost use Rattle.parse_state.specs.Gives.{Gives, Reads};
+ghost use Rattle.parse_state.specs.Forms.{HoldsOperandForm};
 ghost use Rattle.parse_operators.specs.Levels.{behind_sign, read_plain};
 
 use crate::operations::{operated, sent_alone};
-use parse_operands::{OperandForm, postfix};
-use parse_state::{Context, Failure, Nested, Parser};
+use parse_state::{Context, Failure, Nested, OperandForm, Operands, Parser};
 use ruby_tree::SourcePosition;
 use token_lookahead::DoBlockOwner;
 use tree_builder::Subtree;
@@ -24,7 +28,7 @@ use tree_builder::Subtree;
 /// # Errors
 ///
 /// Where the grammar derives none here, where symbols nest too deep, and where there is not memory enough.
-pub fn unary_operand<N: Nested>(
+pub fn unary_operand<N: Operands>(
     context: Context<'_>,
     nested: &N,
     parser: &mut Parser<'_>,
@@ -46,6 +50,7 @@ pub fn unary_operand<N: Nested>(
 }
 
 // An operand behind an operator of this name.
+#[inline(never)]
 fn before_unary_operand<N: Nested>(
     context: Context<'_>,
     nested: &N,
@@ -63,7 +68,7 @@ fn before_unary_operand<N: Nested>(
 }
 
 // An operand that is no attribute, element or command which what stands behind it would need.
-fn plain<N: Nested>(
+fn plain<N: Operands>(
     context: Context<'_>,
     nested: &N,
     parser: &mut Parser<'_>,
@@ -72,7 +77,14 @@ fn plain<N: Nested>(
     requires { N.IsReady nested.now }
     ensures reads { Reads Holds parser.old parser.new result (read_plain context.entry.source.now (N.readers nested.now context.entry.source.now) (do_owner_of do_owner)) }
 {
-    let start = postfix(context, nested, parser, do_owner)?;
+    operand_alone(nested.postfix(context, parser, do_owner)?)
+}
+
+// The operand, where it was read as one.
+#[inline(never)]
+fn operand_alone(start: OperandForm) -> Result<Subtree, Failure>
+    ensures { (source : Bytes) (Q : Readers) (p : Parser) (t : Start) (w : Toks) (s : Scope) → At p w s → HoldsOperandForm p.symbols start t → Gives Holds p p result (operand_of source Q t w s) }
+{
     if let OperandForm::Operand(operand) = start {
         return Ok(operand);
     }
@@ -109,7 +121,7 @@ pub fn raised<N: Nested>(
 /// # Errors
 ///
 /// As [`unary_operand`].
-pub fn power<N: Nested>(
+pub fn power<N: Operands>(
     context: Context<'_>,
     nested: &N,
     parser: &mut Parser<'_>,
@@ -128,7 +140,7 @@ pub fn power<N: Nested>(
 /// # Errors
 ///
 /// As [`unary_operand`].
-pub fn minus<N: Nested>(
+pub fn minus<N: Operands>(
     context: Context<'_>,
     nested: &N,
     parser: &mut Parser<'_>,
@@ -152,6 +164,7 @@ fn is_sign(context: Context<'_>, parser: &Parser<'_>) -> bool
 }
 
 // An operand behind a unary minus.
+#[inline(never)]
 fn before_minus<N: Nested>(
     context: Context<'_>,
     nested: &N,

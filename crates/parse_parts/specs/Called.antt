@@ -3,7 +3,7 @@ use Rattle.std.specs.Prelude.{◌≡◌}
 use Rattle.ruby_tree.specs.Names.{Texts}
 use Rattle.tree_builder.specs.Subtrees.{HoldsAll, HoldsOther}
 use Rattle.reference_parser.specs.ReadBodies.{Called}
-use Rattle.parse_parts.specs.declared.ArgumentParts.{ArgumentParts}
+use Rattle.parse_parts.specs.declared.given.ArgumentParts.{ArgumentParts}
 
 -- The block of the parts is the call's, whether it is written there or stands for `&:name`.
 pub record HoldsCalled (T : Texts) (x : ArgumentParts) (c : Called) : Type 0 where

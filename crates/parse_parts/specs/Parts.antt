@@ -8,7 +8,7 @@ use Rattle.ruby_tree.specs.Rules.{declare, in_clause, outside_clause, behind, ne
 use Rattle.ruby_tree.specs.Build.{Given}
 use Rattle.ruby_tree.specs.FaultLine.{count_of}
 use Rattle.tree_builder.specs.Subtrees.{HoldsParams, rescues_then, whens_then, params_then}
-use Rattle.reference_parser.specs.Answers.{taken, fault, Parse, ◌>>=◌, ◌>>>◌}
+use Rattle.reference_parser.specs.Answers.{Answer, taken, fault, Parse, ◌>>=◌, ◌>>>◌}
 use Rattle.reference_parser.specs.Fronts.{is_empty, is_name, then_at}
 use Rattle.reference_parser.specs.ReadItems.{Readers, exception_name, read_several, read_classes}
 use Rattle.parse_parts.specs.declared.params.ParamRow.{ParamRow}
@@ -23,6 +23,10 @@ pub record Row : Type 0 where
 pub record HoldsRow (T : Texts) (x : ParamRow) (t : Row) : Type 0 where
   pub params : HoldsParams T x.params t.params
   pub least : x.least ≡ t.least
+
+-- a block, as what a call is given
+abbrev pub as_given : Answer Tree → Answer Other
+as_given a = a >>= λ b r z. taken (with b) r z
 
 -- Each turn of a loop reads one part, joins it to those that were gathered, and is told how the further turns go on.
 module _ (source : Bytes) where

@@ -1,13 +1,16 @@
 //! Blocks, and what a call is given with its block.
 ghost use Rattle.std.specs.Prelude.{◌≡◌};
+ghost use Rattle.ruby_tree.specs.Tree.{Tree};
 ghost use Rattle.ruby_tree.specs.Build.{Given, has_block};
 ghost use Rattle.token_lookahead.specs.Lookaheads.{do_owner_of};
 ghost use Rattle.tree_builder.specs.Subtrees.{Holds, HoldsOther};
+ghost use Rattle.reference_parser.specs.Answers.{Answer};
 ghost use Rattle.reference_parser.specs.ReadBodies.{do_block, brace_block, read_block, call_block, command_block, call_items};
-ghost use Rattle.parse_state.specs.Gives.{Reads};
+ghost use Rattle.parse_state.specs.declared.standing.Parser.{Parser};
+ghost use Rattle.parse_state.specs.Gives.{Gives, Reads};
 ghost use Rattle.parse_parts.specs.Items.{HoldsGiven};
 ghost use Rattle.parse_parts.specs.Called.{HoldsCalled};
-ghost use Rattle.parse_parts.specs.Parts.{called_with};
+ghost use Rattle.parse_parts.specs.Parts.{as_given, called_with};
 
 use crate::clauses::body;
 use crate::{ArgumentParts, bars, in_brackets};
@@ -73,6 +76,17 @@ fn brace_block<N: Nested>(
     Ok(tree_builder::body(context.alloc, here, params, code)?)
 }
 
+// A block that was read, as what a call is given.
+fn as_given(
+    context: Context<'_>,
+    block: Result<Subtree, Failure>,
+) -> Result<ElseSubtree, Failure>
+    ensures { (p q : Parser) (a : Answer Tree) → Gives Holds p q block a → Gives HoldsOther p q result (as_given a) }
+{
+    let block = block?;
+    Ok(ElseSubtree::some(context.alloc, block)?)
+}
+
 /// The block of a call: the one that stands here, or else what it was given.
 pub fn call_block<N: Nested>(
     context: Context<'_>,
@@ -89,8 +103,7 @@ pub fn call_block<N: Nested>(
         return Ok(given);
     }
     if parser.lookahead(context).opens_block(do_owner) {
-        let block = block(context, nested, parser)?;
-        return Ok(ElseSubtree::some(context.alloc, block)?);
+        return as_given(context, block(context, nested, parser));
     }
     Ok(given)
 }
@@ -111,8 +124,7 @@ pub fn command_block<N: Nested>(
         return Ok(given);
     }
     if parser.lookahead(context).opens_do(do_owner) {
-        let block = do_block(context, nested, parser)?;
-        return Ok(ElseSubtree::some(context.alloc, block)?);
+        return as_given(context, do_block(context, nested, parser));
     }
     Ok(given)
 }

@@ -24,4 +24,4 @@ pub use pairs::pair_list;
 pub use params::{parameter_list, parameters};
 pub use rows::{classes, elements, several};
 pub use texts::text_parts;
-pub use variables::{bars, exception_name, target, targets};
+pub use variables::{bars, declare_if, exception_name, target, targets};

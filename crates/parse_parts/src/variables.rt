@@ -163,8 +163,12 @@ fn as_target(name: Name, settable: Settable) -> Target
     }
 }
 
-// The name here becomes a local, where it is that of one.
-fn declare_if(
+/// The name here becomes a local, where it is that of one.
+///
+/// # Errors
+///
+/// Where there is not memory enough.
+pub fn declare_if(
     context: Context<'_>,
     parser: &mut Parser<'_>,
     settable: Settable,

@@ -6,7 +6,10 @@ ghost use Rattle.parse_state.specs.Gives.{Reads};
 ghost use Rattle.parse_program.specs.Knot.{HoldsFound, reader_of};
 
 use crate::founds::{Found, other, part};
-use parse_state::{Context, Failure, Nested, NestedSymbol, Parser};
+use parse_state::{
+    Context, Failure, Nested, NestedSymbol, OperandForm, Operands, Operators, Parser,
+};
+use ruby_tree::SourcePosition;
 use token_lookahead::DoBlockOwner;
 use tree_builder::{ElseSubtree, Subtree};
 
@@ -106,5 +109,53 @@ impl<F: Fn(NestedSymbol, Context<'_>, &mut Parser<'_>, DoBlockOwner) -> Found> N
             context,
             (self.read)(NestedSymbol::ElseBranches, context, parser, do_owner),
         )
+    }
+}
+
+impl<F: Fn(NestedSymbol, Context<'_>, &mut Parser<'_>, DoBlockOwner) -> Found> Operands
+    for Below<F>
+{
+    fn postfix(
+        &self,
+        context: Context<'_>,
+        parser: &mut Parser<'_>,
+        do_owner: DoBlockOwner,
+    ) -> Result<OperandForm, Failure> {
+        parse_operands::postfix(context, self, parser, do_owner)
+    }
+}
+
+impl<F: Fn(NestedSymbol, Context<'_>, &mut Parser<'_>, DoBlockOwner) -> Found> Operators
+    for Below<F>
+{
+    fn level(
+        &self,
+        context: Context<'_>,
+        parser: &mut Parser<'_>,
+        do_owner: DoBlockOwner,
+    ) -> Result<Subtree, Failure> {
+        parse_operators::level(context, self, parser, do_owner)
+    }
+
+    fn climb(
+        &self,
+        context: Context<'_>,
+        parser: &mut Parser<'_>,
+        do_owner: DoBlockOwner,
+        here: SourcePosition,
+        left: Subtree,
+    ) -> Result<Subtree, Failure> {
+        parse_operators::climb(context, self, parser, do_owner, here, left)
+    }
+
+    fn raised(
+        &self,
+        context: Context<'_>,
+        parser: &mut Parser<'_>,
+        do_owner: DoBlockOwner,
+        here: SourcePosition,
+        left: Subtree,
+    ) -> Result<Subtree, Failure> {
+        parse_operators::raised(context, self, parser, do_owner, here, left)
     }
 }

@@ -6,7 +6,7 @@ ghost use Rattle.parse_program.specs.Knot.{HoldsFound, read_over};
 use crate::founds::{Found, found, found_other};
 use parse_operators::{minus, power, unary_operand};
 use parse_parts::else_branches;
-use parse_state::{Context, Failure, Nested, NestedSymbol, Parser};
+use parse_state::{Context, Failure, NestedSymbol, Operators, Parser};
 use parse_statements::{argument, assigned_value, expression, statements, test};
 use token_lookahead::DoBlockOwner;
 use tree_builder::Subtree;
@@ -16,7 +16,7 @@ use tree_builder::Subtree;
 /// # Errors
 ///
 /// Where the grammar derives none here, where symbols nest too deep, and where there is not memory enough.
-pub(crate) fn read_symbol<N: Nested>(
+pub(crate) fn read_symbol<N: Operators>(
     symbol: NestedSymbol,
     context: Context<'_>,
     nested: &N,

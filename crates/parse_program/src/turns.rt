@@ -11,7 +11,7 @@ ghost use Rattle.parse_state.specs.declared.failures.Failure.TheVariants as fail
 ghost use Rattle.parse_program.specs.Turn.{IsAny, Moves, or_else, statement_line, turn_at};
 
 use crate::headers::{enter, skip_class, skip_header};
-use parse_state::{Context, Failure, Nested, Parser};
+use parse_state::{Context, Failure, Operators, Parser};
 use parse_statements::statement;
 use token_lookahead::DoBlockOwner;
 
@@ -20,7 +20,7 @@ use token_lookahead::DoBlockOwner;
 /// # Errors
 ///
 /// Where none of them stands here, where symbols nest too deep, and where there is not memory enough.
-pub(crate) fn turn<N: Nested>(
+pub(crate) fn turn<N: Operators>(
     context: Context<'_>,
     nested: &N,
     parser: &mut Parser<'_>,
@@ -39,7 +39,7 @@ pub(crate) fn turn<N: Nested>(
 }
 
 // The same where `class` stands here. The header is read before the statement, since the locals are lost where a statement fails; where the header fails, so does the statement.
-fn class_turn<N: Nested>(
+fn class_turn<N: Operators>(
     context: Context<'_>,
     nested: &N,
     parser: &mut Parser<'_>,
@@ -60,7 +60,7 @@ fn class_turn<N: Nested>(
 }
 
 // The same where neither a newline nor `class` stands here. No other header looks at the locals.
-fn plain_turn<N: Nested>(
+fn plain_turn<N: Operators>(
     context: Context<'_>,
     nested: &N,
     parser: &mut Parser<'_>,
@@ -86,7 +86,7 @@ fn is_fault(outcome: &Result<(), Failure>) -> bool
 }
 
 // Goes on over a statement with its newline.
-fn line<N: Nested>(context: Context<'_>, nested: &N, parser: &mut Parser<'_>) -> Result<(), Failure>
+fn line<N: Operators>(context: Context<'_>, nested: &N, parser: &mut Parser<'_>) -> Result<(), Failure>
     requires { N.IsReady nested.now }
     ensures moves { (w : Toks) (s : Scope) → At parser.old w s → Moves (length parser.old.rest.now) parser.new result (statement_line context.entry.source.now (N.readers nested.now context.entry.source.now) w s) }
 {
@@ -98,7 +98,7 @@ fn line<N: Nested>(context: Context<'_>, nested: &N, parser: &mut Parser<'_>) ->
 }
 
 // Goes on over a statement.
-fn skip_statement<N: Nested>(
+fn skip_statement<N: Operators>(
     context: Context<'_>,
     nested: &N,
     parser: &mut Parser<'_>,

@@ -9,7 +9,7 @@ ghost use Rattle.parse_program.specs.Turn.{first_line};
 
 use crate::turns::turn;
 use bs_outside::NoMemory;
-use parse_state::{Context, Failure, Nested, Parser};
+use parse_state::{Context, Failure, Operators, Parser};
 use std::alloc::AllocError;
 use token_lookahead::Lookahead;
 
@@ -19,7 +19,7 @@ use token_lookahead::Lookahead;
 /// # Errors
 ///
 /// Where there is not memory enough.
-pub fn stop_line<N: Nested>(
+pub fn stop_line<N: Operators>(
     context: Context<'_>,
     nested: &N,
     parser: &mut Parser<'_>,

@@ -5,11 +5,15 @@
 
 mod cursor;
 mod failures;
+mod forms;
 mod fronts;
+mod layers;
 mod nesting;
 mod standing;
 
 pub use cursor::{EnclosingBody, position_with};
 pub use failures::Failure;
+pub use forms::OperandForm;
+pub use layers::{Operands, Operators};
 pub use nesting::{Nested, NestedSymbol};
 pub use standing::{Context, Parser};

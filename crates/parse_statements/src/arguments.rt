@@ -11,15 +11,13 @@ ghost use Rattle.reference_parser.specs.ReadItems.{Readers};
 ghost use Rattle.reference_parser.specs.ReadOperands as operands;
 ghost use Rattle.reference_parser.specs.ReadStatements.{unassigned, start_by, read_unset, read_settable, read_arg, read_assigned_value};
 ghost use Rattle.parse_state.specs.Gives.{Reads};
-ghost use Rattle.parse_operands.specs.Operands.{HoldsStart};
+ghost use Rattle.parse_state.specs.Forms.{HoldsOperandForm};
 ghost use Rattle.parse_statements.specs.Arguments.{operated, dotted_command};
 
 use crate::commands::{command, command_behind};
 use crate::places::{set_attribute, set_element};
 use crate::variables::variable;
-use parse_operands::{OperandForm, postfix};
-use parse_operators::{climb, level, raised};
-use parse_state::{Context, Failure, Nested, Parser};
+use parse_state::{Context, Failure, Nested, OperandForm, Operators, Parser};
 use ruby_tree::{Name, SourcePosition};
 use token_lookahead::DoBlockOwner;
 use tree_builder::Subtree;
@@ -29,7 +27,7 @@ use tree_builder::Subtree;
 /// # Errors
 ///
 /// Where the grammar derives none here, where symbols nest too deep, and where there is not memory enough.
-pub fn argument<N: Nested>(
+pub fn argument<N: Operators>(
     context: Context<'_>,
     nested: &N,
     parser: &mut Parser<'_>,
@@ -46,7 +44,7 @@ pub fn argument<N: Nested>(
 /// # Errors
 ///
 /// Where the grammar derives none here, where symbols nest too deep, and where there is not memory enough.
-pub fn assigned_value<N: Nested>(
+pub fn assigned_value<N: Operators>(
     context: Context<'_>,
     nested: &N,
     parser: &mut Parser<'_>,
@@ -62,7 +60,7 @@ pub fn assigned_value<N: Nested>(
 }
 
 // An argument, or, where one may stand, a command behind a dot.
-fn settable<N: Nested>(
+fn settable<N: Operators>(
     context: Context<'_>,
     nested: &N,
     parser: &mut Parser<'_>,
@@ -79,7 +77,7 @@ fn settable<N: Nested>(
 }
 
 // The same where no variable is set.
-fn unset<N: Nested>(
+fn unset<N: Operators>(
     context: Context<'_>,
     nested: &N,
     parser: &mut Parser<'_>,
@@ -90,11 +88,11 @@ fn unset<N: Nested>(
     ensures reads { Reads Holds parser.old parser.new result (read_unset context.entry.source.now (N.readers nested.now context.entry.source.now) may_command (do_owner_of do_owner)) }
 {
     if parser.begins_operator(context) {
-        let part = level(context, nested, parser, do_owner)?;
+        let part = nested.level(context, parser, do_owner)?;
         return unassigned(context, parser, part);
     }
     let here = parser.lookahead(context).position();
-    let start = postfix(context, nested, parser, do_owner)?;
+    let start = nested.postfix(context, parser, do_owner)?;
     behind_start(context, nested, parser, do_owner, may_command, here, start)
 }
 
@@ -109,7 +107,7 @@ fn unassigned(context: Context<'_>, parser: &Parser<'_>, part: Subtree) -> Resul
 }
 
 // What begins with an operand at a position: operators behind it, an assignment, or a command, where one may stand.
-fn behind_start<N: Nested>(
+fn behind_start<N: Operators>(
     context: Context<'_>,
     nested: &N,
     parser: &mut Parser<'_>,
@@ -119,7 +117,7 @@ fn behind_start<N: Nested>(
     start: OperandForm,
 ) -> Result<Subtree, Failure>
     requires { N.IsReady nested.now }
-    ensures reads { (o : Toks) (t : operands.OperandForm) → position_of here ≡ position o → HoldsStart parser.old.symbols start t → Reads Holds parser.old parser.new result (start_by context.entry.source.now (N.readers nested.now context.entry.source.now) may_command (do_owner_of do_owner) o t) }
+    ensures reads { (o : Toks) (t : operands.Start) → position_of here ≡ position o → HoldsOperandForm parser.old.symbols start t → Reads Holds parser.old parser.new result (start_by context.entry.source.now (N.readers nested.now context.entry.source.now) may_command (do_owner_of do_owner) o t) }
 {
     match start {
         OperandForm::Operand(operand) => {
@@ -146,7 +144,7 @@ fn behind_start<N: Nested>(
 }
 
 // The operators behind an operand that begins at a position.
-fn behind_operand<N: Nested>(
+fn behind_operand<N: Operators>(
     context: Context<'_>,
     nested: &N,
     parser: &mut Parser<'_>,
@@ -157,8 +155,8 @@ fn behind_operand<N: Nested>(
     requires { N.IsReady nested.now }
     ensures reads { (o : Toks) (a : Tree) → position_of here ≡ position o → Holds parser.old.symbols operand a → Reads Holds parser.old parser.new result (operated context.entry.source.now (N.readers nested.now context.entry.source.now) (do_owner_of do_owner) o a) }
 {
-    let power = raised(context, nested, parser, do_owner, here, operand)?;
-    let part = climb(context, nested, parser, do_owner, here, power)?;
+    let power = nested.raised(context, parser, do_owner, here, operand)?;
+    let part = nested.climb(context, parser, do_owner, here, power)?;
     unassigned(context, parser, part)
 }
 

@@ -1,12 +1,13 @@
 //! Commands: calls whose arguments need no brackets, and the words that leave.
 ghost use Rattle.ruby_lexer.specs.Bytes.{Bytes};
-ghost use Rattle.ruby_tree.specs.Tree.{Tree};
+ghost use Rattle.ruby_tree.specs.Names.{Texts};
+ghost use Rattle.ruby_tree.specs.Tree.{Tree, Trees, at};
 ghost use Rattle.ruby_tree.specs.SourcePositions.{position_of};
 ghost use Rattle.token_lookahead.specs.Lookaheads.{do_owner_of};
 ghost use Rattle.tree_builder.specs.Subtrees.{IsNamed, Holds, HoldsAll};
 ghost use Rattle.reference_parser.specs.ReadStatements.{command_by, read_values, read_command};
 ghost use Rattle.parse_state.specs.Gives.{Reads};
-ghost use Rattle.parse_statements.specs.Commands.{named_command, yield_command, super_command, return_command, break_command, next_command};
+ghost use Rattle.parse_statements.specs.Commands.{named_command, yield_command, super_command, leaving_form, leaving_command};
 
 use parse_parts::{ArgumentParts, command_block, command_items, several};
 use parse_state::{Context, Failure, Nested, Parser};
@@ -16,6 +17,17 @@ use tree_builder::{
     ElseSubtree, Subtree, Subtrees, break_with, call_form, next_with, return_with, send,
     super_with, yield_with,
 };
+
+/// A word that leaves, and takes values along.
+#[derive(Clone, Copy, Drop)]
+enum Leaving {
+    /// `return`
+    Return,
+    /// `break`
+    Break,
+    /// `next`
+    Next,
+}
 
 /// A command that begins with its name or its word.
 ///
@@ -41,12 +53,12 @@ pub fn command<N: Nested>(
         return super_command(context, nested, parser, do_owner);
     }
     if parser.is_word(context, "return") {
-        return return_command(context, nested, parser, do_owner);
+        return leaving_command(context, nested, parser, do_owner, Leaving::Return);
     }
     if parser.is_word(context, "break") {
-        return break_command(context, nested, parser, do_owner);
+        return leaving_command(context, nested, parser, do_owner, Leaving::Break);
     }
-    next_command(context, nested, parser, do_owner)
+    leaving_command(context, nested, parser, do_owner, Leaving::Next)
 }
 
 // A name with its items and its block.
@@ -134,52 +146,32 @@ fn values_behind<N: Nested>(
     Ok(Subtrees::new(context.alloc))
 }
 
-// `return` with its values.
-fn return_command<N: Nested>(
+// A word that leaves, with its values.
+fn leaving_command<N: Nested>(
     context: Context<'_>,
     nested: &N,
     parser: &mut Parser<'_>,
     do_owner: DoBlockOwner,
+    leaving: Leaving,
 ) -> Result<Subtree, Failure>
     requires { N.IsReady nested.now }
-    ensures reads { Reads Holds parser.old parser.new result (return_command context.entry.source.now (N.readers nested.now context.entry.source.now) (do_owner_of do_owner)) }
+    ensures reads { Reads Holds parser.old parser.new result (leaving_command context.entry.source.now (N.readers nested.now context.entry.source.now) (leaving_form leaving) (do_owner_of do_owner)) }
 {
     let here = parser.lookahead(context).position();
     parser.bump();
     let values = values_behind(context, nested, parser, do_owner)?;
-    Ok(return_with(here, values))
+    Ok(leaving_form(leaving, here, values))
 }
 
-// `break` with its values.
-fn break_command<N: Nested>(
-    context: Context<'_>,
-    nested: &N,
-    parser: &mut Parser<'_>,
-    do_owner: DoBlockOwner,
-) -> Result<Subtree, Failure>
-    requires { N.IsReady nested.now }
-    ensures reads { Reads Holds parser.old parser.new result (break_command context.entry.source.now (N.readers nested.now context.entry.source.now) (do_owner_of do_owner)) }
+// What leaves with these values.
+fn leaving_form(leaving: Leaving, here: SourcePosition, values: Subtrees) -> Subtree
+    ensures made { (T : Texts) (ts : Trees) → HoldsAll T values ts → Holds T result (at (position_of here) (leaving_form leaving ts)) }
 {
-    let here = parser.lookahead(context).position();
-    parser.bump();
-    let values = values_behind(context, nested, parser, do_owner)?;
-    Ok(break_with(here, values))
-}
-
-// `next` with its values.
-fn next_command<N: Nested>(
-    context: Context<'_>,
-    nested: &N,
-    parser: &mut Parser<'_>,
-    do_owner: DoBlockOwner,
-) -> Result<Subtree, Failure>
-    requires { N.IsReady nested.now }
-    ensures reads { Reads Holds parser.old parser.new result (next_command context.entry.source.now (N.readers nested.now context.entry.source.now) (do_owner_of do_owner)) }
-{
-    let here = parser.lookahead(context).position();
-    parser.bump();
-    let values = values_behind(context, nested, parser, do_owner)?;
-    Ok(next_with(here, values))
+    match leaving {
+        Leaving::Return => return_with(here, values),
+        Leaving::Break => break_with(here, values),
+        Leaving::Next => next_with(here, values),
+    }
 }
 
 /// The items and the block of a command that was read up to its name.

@@ -14,7 +14,7 @@ ghost use Rattle.parse_statements.specs.Statements.{joining_at, joined_by, one_j
 
 use crate::arguments::assigned_value;
 use bs_outside::NoMemory;
-use parse_state::{Context, Failure, Nested, Parser};
+use parse_state::{Context, Failure, Nested, Operators, Parser};
 use ruby_tree::SourcePosition;
 use std::alloc::Global;
 use token_lookahead::DoBlockOwner;
@@ -34,7 +34,7 @@ pub enum LogicalOperator {
 /// # Errors
 ///
 /// Where the grammar derives none here, where symbols nest too deep, and where there is not memory enough.
-pub fn test<N: Nested>(
+pub fn test<N: Operators>(
     context: Context<'_>,
     nested: &N,
     parser: &mut Parser<'_>,
@@ -57,7 +57,7 @@ pub fn test<N: Nested>(
 /// # Errors
 ///
 /// Where the grammar derives none here, where symbols nest too deep, and where there is not memory enough.
-pub fn expression<N: Nested>(
+pub fn expression<N: Operators>(
     context: Context<'_>,
     nested: &N,
     parser: &mut Parser<'_>,

@@ -18,7 +18,7 @@ ghost use Rattle.parse_statements.specs.Statements.{statement_turn, gathered_tur
 
 use crate::modifiers::modified;
 use crate::several::head;
-use parse_state::{Context, Failure, Nested, Parser};
+use parse_state::{Context, Failure, Operators, Parser};
 use token_lookahead::{DoBlockOwner, Lookahead};
 use tree_builder::{ElseSubtree, Subtree, Subtrees, or_empty};
 
@@ -27,7 +27,7 @@ use tree_builder::{ElseSubtree, Subtree, Subtrees, or_empty};
 /// # Errors
 ///
 /// Where the grammar derives none here, where symbols nest too deep, and where there is not memory enough.
-pub fn statement<N: Nested>(
+pub fn statement<N: Operators>(
     context: Context<'_>,
     nested: &N,
     parser: &mut Parser<'_>,
@@ -55,7 +55,7 @@ fn is_begun(begins: bool, part: &Subtree) -> bool
 /// # Errors
 ///
 /// Where the grammar derives none here, where symbols nest too deep, and where there is not memory enough.
-pub fn statements<N: Nested>(
+pub fn statements<N: Operators>(
     context: Context<'_>,
     nested: &N,
     parser: &mut Parser<'_>,
@@ -81,7 +81,7 @@ fn begins_statements(lookahead: Lookahead<'_>) -> bool
 }
 
 // Statements and newlines, as many as there are.
-fn statement_list<N: Nested>(
+fn statement_list<N: Operators>(
     context: Context<'_>,
     nested: &N,
     parser: &mut Parser<'_>,
@@ -96,7 +96,7 @@ fn statement_list<N: Nested>(
 }
 
 // A newline or one more statement, and whether more may follow.
-fn statement_turn<N: Nested>(
+fn statement_turn<N: Operators>(
     context: Context<'_>,
     nested: &N,
     parser: &mut Parser<'_>,
@@ -118,7 +118,7 @@ fn statement_turn<N: Nested>(
 }
 
 // One more statement, and whether a newline stands behind it.
-fn gathered_turn<N: Nested>(
+fn gathered_turn<N: Operators>(
     context: Context<'_>,
     nested: &N,
     parser: &mut Parser<'_>,

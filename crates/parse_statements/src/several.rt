@@ -12,7 +12,7 @@ ghost use Rattle.parse_statements.specs.Statements.{read_set_all};
 
 use crate::logic::expression;
 use parse_parts::{several, targets};
-use parse_state::{Context, Failure, Nested, Parser};
+use parse_state::{Context, Failure, Nested, Operators, Parser};
 use token_lookahead::DoBlockOwner;
 use tree_builder::{Subtree, assign_all};
 
@@ -21,7 +21,7 @@ use tree_builder::{Subtree, assign_all};
 /// # Errors
 ///
 /// Where the grammar derives none here, where symbols nest too deep, and where there is not memory enough.
-pub fn head<N: Nested>(
+pub fn head<N: Operators>(
     context: Context<'_>,
     nested: &N,
     parser: &mut Parser<'_>,

@@ -4,7 +4,7 @@ ghost use Rattle.ruby_lexer.specs.Bytes.{Bytes};
 ghost use Rattle.ruby_lexer.specs.Pieces.{Toks, seen_all};
 ghost use Rattle.ruby_tree.specs.Names.{Texts};
 ghost use Rattle.ruby_tree.specs.Tree.{Goal, Tree, at, assign, both, either};
-ghost use Rattle.ruby_tree.specs.Rules.{Scope, position, position_with, word, goal_at, declared, but_last};
+ghost use Rattle.ruby_tree.specs.Rules.{Scope, position, position_with, word, goal_at, but_last};
 ghost use Rattle.ruby_tree.specs.Build.{one, sent, read_form};
 ghost use Rattle.ruby_tree.specs.SourcePositions.{position_of};
 ghost use Rattle.token_lookahead.specs.Lookaheads.{do_owner_of, goal_with};
@@ -12,11 +12,11 @@ ghost use Rattle.tree_builder.specs.Subtrees.{IsNamed, IsTarget, Holds};
 ghost use Rattle.reference_parser.specs.Answers.{taken};
 ghost use Rattle.reference_parser.specs.ReadStatements.{set_by, variable_form};
 ghost use Rattle.parse_state.specs.Standing.{At};
-ghost use Rattle.parse_state.specs.Gives.{Gives, Reads, HoldsNothing};
+ghost use Rattle.parse_state.specs.Gives.{Gives, Reads};
 
 use crate::values::{operator_name, value};
 use bs_outside::NoMemory;
-use parse_parts::target;
+use parse_parts::{declare_if, target};
 use parse_state::{Context, Failure, Nested, Parser, position_with};
 use ruby_tree::{Name, SourcePosition, Target};
 use std::alloc::Global;
@@ -62,21 +62,6 @@ fn set_variable<N: Nested>(
     parser.bump();
     let value = value(context, nested, parser, do_owner)?;
     variable_form(context, parser, here, operator, target, value)
-}
-
-// The name here becomes a local, where it is that of one.
-fn declare_if(
-    context: Context<'_>,
-    parser: &mut Parser<'_>,
-    settable: Settable,
-) -> Result<(), Failure>
-    ensures gives { (w : Toks) (s : Scope) → At parser.old w s → Gives HoldsNothing parser.old parser.new result (taken tt w (declared (goal_with (word context.entry.source.now w) settable) s)) }
-{
-    match settable {
-        Settable::Local => parser.declare(context),
-        Settable::Instance => Ok(()),
-        Settable::Global => Ok(()),
-    }
 }
 
 // A constant that is set by the second token.

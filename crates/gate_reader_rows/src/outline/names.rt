@@ -52,7 +52,7 @@ impl<'a> Outliner<'a> {
     }
 
     pub(super) fn position(&mut self, node: &Node) {
-        if self.has_spots {
+        if self.has_positions {
             self.put("@");
             self.pieces.number(node.first);
             self.put(".");

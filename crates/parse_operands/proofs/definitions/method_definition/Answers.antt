@@ -7,7 +7,7 @@ use Rattle.reference_parser.specs.ReadBodies.{read_body, read_parameters}
 use Rattle.reference_parser.specs.ReadOperands.{read_method}
 use Rattle.parse_state.specs.Standing.{Later}
 use Rattle.parse_state.proofs.Steps.{later_then, from, missed, handed, wanting}
-use Rattle.parse_operands.proofs.Tools.{at_spot, method_on, told_as, so_found, inside, failed_inside, body_later, body_names}
+use Rattle.parse_state.proofs.Tools.{at_spot, method_on, told_as, so_found, inside, failed_inside, body_later, body_names}
 use Rattle.parse_operands.proofs.definitions.method_definition.Goals as goal
 
 pub returns-in_err-on_self : goal.returns-in_err-on_self

@@ -6,7 +6,7 @@ use Rattle.reference_parser.specs.ReadItems.{Readers}
 use Rattle.reference_parser.specs.ReadBodies.{read_body}
 use Rattle.parse_state.specs.Standing.{Later}
 use Rattle.parse_state.proofs.Steps.{later_then, from, cut, handed, wanting}
-use Rattle.parse_operands.proofs.Tools.{at_spot, told_as, so_step, inside, failed_inside, body_later, body_names}
+use Rattle.parse_state.proofs.Tools.{at_spot, told_as, so_step, inside, failed_inside, body_later, body_names}
 use Rattle.parse_operands.proofs.definitions.module_at.Goals as goal
 
 pub returns-in_err-name : goal.returns-in_err-name

@@ -2,7 +2,7 @@ use Rattle.ruby_tree.specs.Tree.{SourcePosition}
 use Rattle.token_lookahead.specs.Lookaheads.{do_owner_of}
 use Rattle.reference_parser.specs.ReadItems.{Readers}
 use Rattle.reference_parser.specs.ReadBodies.{read_body}
-use Rattle.parse_operands.proofs.Tools.{told_as}
+use Rattle.parse_state.proofs.Tools.{told_as}
 use Rattle.parse_operands.proofs.definitions.plain_body.Goals as goal
 
 pub returns : goal.returns

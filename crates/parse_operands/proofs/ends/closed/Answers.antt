@@ -1,6 +1,6 @@
 use Rattle.tree_builder.proofs.GoesOn.{later}
 use Rattle.parse_state.proofs.Steps.{handed}
-use Rattle.parse_operands.proofs.Tools.{closed_with, unclosed}
+use Rattle.parse_state.proofs.Tools.{closed_with, unclosed}
 use Rattle.parse_operands.proofs.ends.closed.Goals as goal
 
 pub returns-in_err-expect_closing : goal.returns-in_err-expect_closing

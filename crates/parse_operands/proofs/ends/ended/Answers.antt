@@ -2,7 +2,7 @@ use Rattle.tree_builder.proofs.GoesOn.{later}
 use Rattle.reference_parser.specs.ReadBodies.{ended}
 use Rattle.parse_state.specs.Gives.{gave}
 use Rattle.parse_state.proofs.Steps.{later_same, unexpected, handed}
-use Rattle.parse_operands.proofs.Tools.{so_met}
+use Rattle.parse_state.proofs.Tools.{so_met}
 use Rattle.parse_operands.proofs.ends.ended.Goals as goal
 
 pub returns-in_err-expect_word : goal.returns-in_err-expect_word

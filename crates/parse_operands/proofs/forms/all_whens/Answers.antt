@@ -5,7 +5,7 @@ use Rattle.tree_builder.proofs.GoesOn.{other_later, whens_later}
 use Rattle.reference_parser.specs.ReadItems.{Readers}
 use Rattle.reference_parser.specs.ReadBodies.{read_else, when_list}
 use Rattle.parse_state.proofs.Steps.{later_then, failed, handed, wanting}
-use Rattle.parse_operands.proofs.Tools.{at_spot, told_as, so}
+use Rattle.parse_state.proofs.Tools.{at_spot, told_as, so}
 use Rattle.parse_operands.proofs.Counts.{under}
 use Rattle.parse_operands.proofs.forms.all_whens.Goals as goal
 

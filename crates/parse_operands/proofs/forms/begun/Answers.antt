@@ -7,7 +7,7 @@ use Rattle.reference_parser.specs.ReadItems.{Readers}
 use Rattle.reference_parser.specs.ReadBodies.{read_body}
 use Rattle.reference_parser.specs.ReadOperands.{read_begin}
 use Rattle.parse_state.proofs.Steps.{from, failed, handed}
-use Rattle.parse_operands.proofs.Tools.{told_as, so}
+use Rattle.parse_state.proofs.Tools.{told_as, so}
 use Rattle.parse_operands.proofs.forms.begun.Goals as goal
 
 pub returns-in_err-part : goal.returns-in_err-part

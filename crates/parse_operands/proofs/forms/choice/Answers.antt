@@ -4,7 +4,7 @@ use Rattle.tree_builder.proofs.GoesOn.{later}
 use Rattle.reference_parser.specs.ReadItems.{Readers}
 use Rattle.reference_parser.specs.ReadOperands.{read_choice}
 use Rattle.parse_state.proofs.Steps.{later_then, from, failed, missed, handed, wanting}
-use Rattle.parse_operands.proofs.Tools.{at_spot, told_as, so, so_found}
+use Rattle.parse_state.proofs.Tools.{at_spot, told_as, so, so_found}
 use Rattle.parse_operands.proofs.forms.choice.Goals as goal
 
 pub returns-in_err-condition : goal.returns-in_err-condition

@@ -3,7 +3,7 @@ use Rattle.ruby_tree.specs.Rules.{DoBlockOwner, next}
 use Rattle.tree_builder.proofs.GoesOn.{later}
 use Rattle.reference_parser.specs.ReadItems.{Readers}
 use Rattle.parse_state.proofs.Steps.{from, failed, handed, wanting}
-use Rattle.parse_operands.proofs.Tools.{told_as, so}
+use Rattle.parse_state.proofs.Tools.{told_as, so}
 use Rattle.parse_operands.proofs.forms.valued_case.Goals as goal
 
 pub returns-in_err-value : goal.returns-in_err-value

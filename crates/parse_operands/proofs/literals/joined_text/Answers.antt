@@ -3,7 +3,7 @@ use Rattle.ruby_tree.specs.Rules.{next, position}
 use Rattle.reference_parser.specs.Answers.{taken}
 use Rattle.reference_parser.specs.ReadOperands.{literal_by}
 use Rattle.parse_state.proofs.Steps.{handed}
-use Rattle.parse_operands.proofs.Tools.{at_spot, then_back, failed_back}
+use Rattle.parse_state.proofs.Tools.{at_spot, then_back, failed_back}
 use Rattle.parse_operands.proofs.literals.joined_text.Goals as goal
 
 pub returns-in_err-pieces : goal.returns-in_err-pieces

@@ -4,7 +4,7 @@ use Rattle.ruby_lexer.specs.Pieces.{seen_parts}
 use Rattle.reference_parser.specs.ReadItems.{Readers}
 use Rattle.reference_parser.specs.ReadOperands.{literal_by}
 use Rattle.parse_state.proofs.Steps.{wanting}
-use Rattle.parse_operands.proofs.Tools.{at_spot, told_as}
+use Rattle.parse_state.proofs.Tools.{at_spot, told_as}
 use Rattle.parse_operands.proofs.literals.literal.Goals as goal
 
 pub returns-in_err-plain : goal.returns-in_err-plain

@@ -6,7 +6,7 @@ use Rattle.ruby_tree.specs.Build.{symbols_at}
 use Rattle.tree_builder.specs.Subtrees.{AreNamed}
 use Rattle.reference_parser.specs.Answers.{taken}
 use Rattle.parse_state.proofs.Steps.{cut, handed, wanting}
-use Rattle.parse_operands.proofs.Tools.{array_spread, told_as, so_step}
+use Rattle.parse_state.proofs.Tools.{array_spread, told_as, so_step}
 use Rattle.parse_operands.proofs.literals.symbol_list.Goals as goal
 
 pub returns-in_err-names : goal.returns-in_err-names

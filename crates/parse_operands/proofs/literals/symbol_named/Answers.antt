@@ -1,6 +1,6 @@
 use Rattle.ruby_tree.specs.Tree.{symbol}
 use Rattle.parse_state.proofs.Steps.{cut, handed}
-use Rattle.parse_operands.proofs.Tools.{at_spot, so_step}
+use Rattle.parse_state.proofs.Tools.{at_spot, so_step}
 use Rattle.parse_operands.proofs.literals.symbol_named.Goals as goal
 
 pub returns-in_err-name : goal.returns-in_err-name

@@ -4,7 +4,7 @@ use Rattle.ruby_tree.specs.Rules.{next}
 use Rattle.ruby_tree.specs.Build.{texts_at}
 use Rattle.reference_parser.specs.Answers.{taken}
 use Rattle.parse_state.proofs.Steps.{wanting}
-use Rattle.parse_operands.proofs.Tools.{array_spread, told_as}
+use Rattle.parse_state.proofs.Tools.{array_spread, told_as}
 use Rattle.parse_operands.proofs.literals.word_list.Goals as goal
 
 pub returns-in_err-elements : goal.returns-in_err-elements

@@ -3,7 +3,7 @@ use Rattle.ruby_tree.specs.Tree.{at}
 use Rattle.tree_builder.proofs.GoesOn.{later}
 use Rattle.reference_parser.specs.ReadOperands.{read_hash}
 use Rattle.parse_state.proofs.Steps.{from, yes, no}
-use Rattle.parse_operands.proofs.Tools.{at_spot}
+use Rattle.parse_state.proofs.Tools.{at_spot}
 use Rattle.parse_operands.proofs.marks.braces.Goals as goal
 
 pub returns-then-mark_behind : goal.returns-then-mark_behind

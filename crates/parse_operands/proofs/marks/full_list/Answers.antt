@@ -3,7 +3,7 @@ use Rattle.ruby_tree.specs.Tree.{at}
 use Rattle.ruby_tree.specs.FaultLine.{count_of}
 use Rattle.tree_builder.proofs.GoesOn.{later}
 use Rattle.parse_state.proofs.Steps.{from, failed, handed}
-use Rattle.parse_operands.proofs.Tools.{at_spot, array_spread, so}
+use Rattle.parse_state.proofs.Tools.{at_spot, array_spread, so}
 use Rattle.parse_operands.proofs.Counts.{under_next}
 use Rattle.parse_operands.proofs.marks.full_list.Goals as goal
 

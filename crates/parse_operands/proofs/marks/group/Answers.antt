@@ -3,7 +3,7 @@ use Rattle.tree_builder.proofs.GoesOn.{later}
 use Rattle.reference_parser.specs.ReadOperands.{read_group}
 use Rattle.parse_state.specs.Gives.{gave}
 use Rattle.parse_state.proofs.Steps.{later_same, from, unexpected, failed, handed}
-use Rattle.parse_operands.proofs.Tools.{so, so_met}
+use Rattle.parse_state.proofs.Tools.{so, so_met}
 use Rattle.parse_operands.proofs.marks.group.Goals as goal
 
 pub returns-in_err-part : goal.returns-in_err-part

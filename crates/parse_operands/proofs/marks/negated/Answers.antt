@@ -7,7 +7,7 @@ use Rattle.ruby_tree.specs.Tree.{at, integer}
 use Rattle.tree_builder.proofs.GoesOn.{later}
 use Rattle.parse_state.specs.Gives.{no_memory}
 use Rattle.parse_state.proofs.Steps.{from}
-use Rattle.parse_operands.proofs.Tools.{at_spot, integer_as}
+use Rattle.parse_state.proofs.Tools.{at_spot, integer_as}
 use Rattle.parse_operands.proofs.marks.negated.Goals as goal
 
 pub returns-in-Some : goal.returns-in-Some

@@ -5,7 +5,7 @@ use Rattle.ruby_tree.specs.Rules.{next, position, front}
 use Rattle.reference_parser.specs.Answers.{taken}
 use Rattle.reference_parser.specs.ReadOperands.{negative_by}
 use Rattle.parse_state.specs.Gives.{no_syntax}
-use Rattle.parse_operands.proofs.Tools.{told_as}
+use Rattle.parse_state.proofs.Tools.{told_as}
 use Rattle.parse_operands.proofs.Signs.{negative_some, negative_none}
 use Rattle.parse_operands.proofs.marks.negative.Goals as goal
 

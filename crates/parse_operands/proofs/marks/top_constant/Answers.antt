@@ -1,7 +1,7 @@
 use Rattle.ruby_tree.specs.Tree.{at}
 use Rattle.tree_builder.proofs.GoesOn.{later}
 use Rattle.parse_state.proofs.Steps.{from, cut, handed, wanting}
-use Rattle.parse_operands.proofs.Tools.{at_spot, so_step}
+use Rattle.parse_state.proofs.Tools.{at_spot, so_step}
 use Rattle.parse_operands.proofs.marks.top_constant.Goals as goal
 
 pub returns-in_err-name : goal.returns-in_err-name

@@ -2,7 +2,7 @@ use Rattle.std.proofs.Common.{sym}
 use Rattle.ruby_tree.specs.Rules.{word}
 use Rattle.parse_state.proofs.Steps.{cut, handed}
 use Rattle.parse_state.proofs.Seen.{sees, seen_as}
-use Rattle.parse_operands.proofs.Tools.{at_spot, bare_named, so_step}
+use Rattle.parse_state.proofs.Tools.{at_spot, bare_named, so_step}
 use Rattle.parse_operands.proofs.names.bare_name.Goals as goal
 
 pub returns-in_err-name : goal.returns-in_err-name

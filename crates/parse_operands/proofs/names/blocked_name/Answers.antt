@@ -3,7 +3,7 @@ use Rattle.ruby_tree.specs.Tree.{at, send}
 use Rattle.tree_builder.proofs.GoesOn.{later, named_later}
 use Rattle.parse_state.specs.Gives.{gave}
 use Rattle.parse_state.proofs.Steps.{later_same, later_then, from, failed, cut, handed, wanting}
-use Rattle.parse_operands.proofs.Tools.{at_spot, send_spread, so, so_step}
+use Rattle.parse_state.proofs.Tools.{at_spot, send_spread, so, so_step}
 use Rattle.parse_operands.proofs.names.blocked_name.Goals as goal
 
 pub returns-in_err-name : goal.returns-in_err-name

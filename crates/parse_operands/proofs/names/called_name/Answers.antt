@@ -3,7 +3,7 @@ use Rattle.tree_builder.proofs.GoesOn.{later, all_later, other_later, named_late
 use Rattle.reference_parser.specs.ReadOperands.{called_name}
 use Rattle.parse_state.specs.Gives.{gave}
 use Rattle.parse_state.proofs.Steps.{later_same, later_then, from, failed, cut, handed}
-use Rattle.parse_operands.proofs.Tools.{at_spot, send_spread, so, so_step}
+use Rattle.parse_state.proofs.Tools.{at_spot, send_spread, so, so_step}
 use Rattle.parse_operands.proofs.names.called_name.Goals as goal
 
 pub returns-in_err-name : goal.returns-in_err-name

@@ -3,7 +3,7 @@ use Rattle.ruby_tree.specs.Tree.{at}
 use Rattle.tree_builder.proofs.GoesOn.{later}
 use Rattle.parse_state.specs.Gives.{gave, no_syntax}
 use Rattle.parse_state.proofs.Steps.{later_same, from, yes, no, failed, handed}
-use Rattle.parse_operands.proofs.Tools.{at_spot, yield_spread, so}
+use Rattle.parse_state.proofs.Tools.{at_spot, yield_spread, so}
 use Rattle.parse_operands.proofs.names.given_yield.Goals as goal
 
 pub returns-in_err-given : goal.returns-in_err-given

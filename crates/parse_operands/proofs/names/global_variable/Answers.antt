@@ -1,5 +1,5 @@
 use Rattle.parse_state.proofs.Steps.{cut, handed}
-use Rattle.parse_operands.proofs.Tools.{at_spot, so_step}
+use Rattle.parse_state.proofs.Tools.{at_spot, so_step}
 use Rattle.parse_operands.proofs.names.global_variable.Goals as goal
 
 pub returns-in_err-name : goal.returns-in_err-name

@@ -1,6 +1,6 @@
 use Rattle.ruby_tree.specs.Tree.{local}
 use Rattle.parse_state.proofs.Steps.{cut, handed}
-use Rattle.parse_operands.proofs.Tools.{at_spot, so_step}
+use Rattle.parse_state.proofs.Tools.{at_spot, so_step}
 use Rattle.parse_operands.proofs.names.local_name.Goals as goal
 
 pub returns-in_err-name : goal.returns-in_err-name

@@ -4,7 +4,7 @@ use Rattle.ruby_tree.specs.Build.{nothing}
 use Rattle.tree_builder.proofs.GoesOn.{later}
 use Rattle.parse_state.specs.Gives.{gave}
 use Rattle.parse_state.proofs.Steps.{later_same, from, failed, handed}
-use Rattle.parse_operands.proofs.Tools.{at_spot, so}
+use Rattle.parse_state.proofs.Tools.{at_spot, so}
 use Rattle.parse_operands.proofs.names.lone_super.Goals as goal
 
 pub returns-in_err-block : goal.returns-in_err-block

@@ -1,6 +1,6 @@
 use Rattle.tree_builder.proofs.Targets.{constant_named}
 use Rattle.parse_state.proofs.Steps.{cut, handed, wanting}
-use Rattle.parse_operands.proofs.Tools.{at_spot, so_step}
+use Rattle.parse_state.proofs.Tools.{at_spot, so_step}
 use Rattle.parse_operands.proofs.names.plain_constant.Goals as goal
 
 pub returns-in_err-name : goal.returns-in_err-name

@@ -2,7 +2,7 @@ use Rattle.std.proofs.Common.{sym, rules, true, false, ◌∙◌}
 use Rattle.reference_parser.specs.ReadOperands.{read_yield}
 use Rattle.parse_state.specs.Gives.{no_syntax}
 use Rattle.parse_state.proofs.Steps.{yes, no}
-use Rattle.parse_operands.proofs.Tools.{at_spot, yield_spread}
+use Rattle.parse_state.proofs.Tools.{at_spot, yield_spread}
 use Rattle.parse_operands.proofs.names.yielded.Goals as goal
 
 pub returns-then-opens_behind : goal.returns-then-opens_behind

@@ -3,7 +3,7 @@ use Rattle.tree_builder.proofs.GoesOn.{later, all_later, other_later}
 use Rattle.reference_parser.specs.ReadOperands.{end_index}
 use Rattle.parse_state.proofs.Steps.{here, later_same, later_then, later_of}
 use Rattle.parse_operands.specs.Turns.{longer, no_syntax}
-use Rattle.parse_operands.proofs.Tools.{at_spot, send_spread}
+use Rattle.parse_state.proofs.Tools.{at_spot, send_spread}
 use Rattle.parse_operands.proofs.Turning.{turn_from, turn_yes, turn_no, turn_handed, turn_wanting, turn_step, turn_cut}
 use Rattle.parse_operands.proofs.postfixes.end_index.Goals as goal
 

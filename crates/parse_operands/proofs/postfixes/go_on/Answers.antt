@@ -4,7 +4,7 @@ use Rattle.reference_parser.specs.ReadItems.{Readers}
 use Rattle.reference_parser.specs.ReadOperands.{postfix_at}
 use Rattle.parse_state.specs.Standing.{toks_of, scope_of}
 use Rattle.parse_state.proofs.Steps.{here, later_same}
-use Rattle.parse_operands.specs.Operands.{holds_operand}
+use Rattle.parse_state.specs.Forms.{holds_operand}
 use Rattle.parse_operands.specs.Turns.{ended}
 use Rattle.parse_operands.proofs.Turning.{turn_yes, turn_no, if_fewer}
 use Rattle.parse_operands.proofs.Counts.{mark_counts, some_left, dot_counts, bracket_counts}

@@ -5,7 +5,7 @@ use Rattle.tree_builder.proofs.GoesOn.{later}
 use Rattle.reference_parser.specs.ReadItems.{Readers}
 use Rattle.parse_state.specs.Standing.{toks_of, scope_of}
 use Rattle.parse_state.proofs.Steps.{here, later_same, later_then, later_of}
-use Rattle.parse_operands.specs.Operands.{holds_element}
+use Rattle.parse_state.specs.Forms.{holds_element}
 use Rattle.parse_operands.specs.Turns.{ended}
 use Rattle.parse_operands.proofs.Turning.{turn_from, turn_yes, turn_no, turn_handed, turn_then, turn_failed, behind_later, if_shorter}
 use Rattle.parse_operands.proofs.Counts.{under, under_later}

@@ -1,6 +1,6 @@
 use Rattle.reference_parser.specs.ReadOperands.{read_postfix}
 use Rattle.parse_state.proofs.Steps.{failed, handed}
-use Rattle.parse_operands.proofs.Tools.{so}
+use Rattle.parse_state.proofs.Tools.{so}
 use Rattle.parse_operands.proofs.Counts.{under}
 use Rattle.parse_operands.proofs.postfixes.postfix.Goals as goal
 

@@ -6,7 +6,7 @@ use Rattle.token_lookahead.specs.Lookaheads.{integer_in, literal_in, symbol_in, 
 use Rattle.reference_parser.specs.ReadItems.{Readers}
 use Rattle.parse_state.specs.Gives.{no_syntax}
 use Rattle.parse_state.proofs.Steps.{named}
-use Rattle.parse_operands.proofs.Tools.{at_spot, integer_as}
+use Rattle.parse_state.proofs.Tools.{at_spot, integer_as}
 use Rattle.parse_operands.proofs.Fronts.{shown, held_integer, held_literal, held_symbol, held_words, held_symbols, held_none}
 use mir.Syntax.{w64}
 use mir.Val.{SFits}

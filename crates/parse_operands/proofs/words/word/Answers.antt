@@ -1,7 +1,7 @@
 use Rattle.std.proofs.Common.{sym, true, false, ◌∙◌}
 use Rattle.reference_parser.specs.ReadOperands.{read_word}
 use Rattle.parse_state.proofs.Steps.{yes, no}
-use Rattle.parse_operands.proofs.Tools.{at_spot}
+use Rattle.parse_state.proofs.Tools.{at_spot}
 use Rattle.parse_operands.proofs.words.word.Goals as goal
 
 pub returns-then-is_word : goal.returns-then-is_word

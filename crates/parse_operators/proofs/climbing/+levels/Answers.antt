@@ -1,13 +1,14 @@
-use Rattle.std.proofs.Common.{◌≡◌, refl, sym, ap, ◌∙◌, ◌<◌, ◌≤◌, ◌-◌, length, arith}
+use Rattle.std.proofs.Common.{◌≡◌, refl, sym, ap, ◌∙◌, ◌<◌, ◌≤◌, ◌+◌, ◌-◌, length, arith}
 use Rattle.ruby_tree.specs.Rules.{position, mark_in, equality_marks}
 use Rattle.token_lookahead.specs.Lookaheads.{do_owner_of}
 use Rattle.tree_builder.proofs.GoesOn.{later}
 use Rattle.reference_parser.specs.ReadLevels.{compare, ranged, read_level}
 use Rattle.parse_state.specs.Gives.{gave}
-use Rattle.parse_state.proofs.Steps.{here, later_same, later_then, later_of, from, named, yes, no, and_then, failed, handed}
+use Rattle.parse_state.proofs.Steps.{here, later_same, from, named, yes, no, and_then, failed, handed}
 use Rattle.parse_state.proofs.Seen.{sees, seen_in}
+use Rattle.parse_operators.specs.declared.precedence.PrecedenceLevel.TheVariants as level
 use Rattle.parse_operators.specs.Levels.{levels_of}
-use Rattle.parse_operators.proofs.Climbs.{levels_more, climbed_none, climbed, at_equality, at_ranges, at_conditional, at_others, turned_by}
+use Rattle.parse_operators.proofs.Climbs.{climbed_none, one_more, stopped_over, all_over, at_equality, at_ranges, at_conditional, at_others, turned_by}
 use Rattle.parse_operators.proofs.Joining.{begins, ends, goes_on, fails}
 use Rattle.parse_operators.proofs.climbing.+levels.Goals as goal
 
@@ -23,14 +24,17 @@ at_level-returns-in-Conditional g t c = record { reads = λ o a at h w s b. at_c
 pub at_level-returns-in_default : goal.at_level-returns-in_default
 at_level-returns-in_default g t c = record { reads = λ o a at h w s b. named (at_others _ _ _ o a w s _ c.args.level c.in_default.not-Equality c.in_default.not-Ranges c.in_default.not-Conditional) (c.rest.ensures.reads o a at h w s b) }
 
-pub climb_to-returns-in_err-left-in-Some : goal.climb_to-returns-in_err-left-in-Some
-climb_to-returns-in_err-left-in-Some g t c = record { reads = λ o a at h w s b. handed _ _ c.from_residual.ensures.1 (climbed _ _ _ o a w s (levels_more _ _ _ c.in-Some.is c.below-below.ensures) (failed _ (c.in_err-left-in-Some.ensures.reads o a at h w s b))) }
+pub over-loop-index-init : goal.over-loop-index-init
+over-loop-index-init g t c = λ o a at h w s b. climbed_none _ _ _ o a w s refl (gave b (later_same _) h)
 
-pub climb_to-returns-in-None : goal.climb_to-returns-in-None
-climb_to-returns-in-None g t c = record { reads = λ o a at h w s b. climbed_none _ _ _ o a w s (ap levels_of c.in-None.is) (gave b (later_same _) h) }
+pub over-returns-in_err-left : goal.over-returns-in_err-left
+over-returns-in_err-left g t c = record { reads = λ o a at h w s b. handed _ _ c.from_residual.ensures.1 (stopped_over c.args.context.source.now (g.N.Nested.readers c.args.nested.now c.args.context.source.now) (do_owner_of c.args.do_owner) o a w s c.args.levels.now (c.loop-index.index + 1) (one_more c.args.context.source.now (g.N.Nested.readers c.args.nested.now c.args.context.source.now) (do_owner_of c.args.do_owner) o a w s c.args.levels.now level.Product c.loop-index.index (omega arith) (c.loop-index.invariant o a at h w s b) (λ x r z n k. c.in_err-left.ensures.reads o x at k r z n))) }
 
-pub climb_to-returns-in_ok-left-in-Some : goal.climb_to-returns-in_ok-left-in-Some
-climb_to-returns-in_ok-left-in-Some g t c = record { reads = λ o a at h w s b. climbed _ _ _ o a w s (levels_more _ _ _ c.in-Some.is c.below-below.ensures) (and_then (c.in_ok-left-in-Some.ensures.reads o a at h w s b) (λ x r z n k. c.at_level.ensures.reads o x at k r z n)) }
+pub over-loop-index-preserved : goal.over-loop-index-preserved
+over-loop-index-preserved g t c = λ o a at h w s b. one_more c.args.context.source.now (g.N.Nested.readers c.args.nested.now c.args.context.source.now) (do_owner_of c.args.do_owner) o a w s c.args.levels.now level.Product c.loop-index.index (omega arith) (c.loop-index.invariant o a at h w s b) (λ x r z n k. c.in_ok-left.ensures.reads o x at k r z n)
+
+pub over-returns : goal.over-returns
+over-returns g t c = record { reads = λ o a at h w s b. all_over c.args.context.source.now (g.N.Nested.readers c.args.nested.now c.args.context.source.now) (do_owner_of c.args.do_owner) o a w s c.args.levels.now c.loop-index.index (omega arith) (c.loop-index.invariant o a at h w s b) }
 
 pub compared-returns-then-is_equality : goal.compared-returns-then-is_equality
 unfolding compare
@@ -60,40 +64,33 @@ pub rest-loop-do_owner-init : goal.rest-loop-do_owner-init
 rest-loop-do_owner-init g t c = λ o a at h w s b. begins _ _ _ _ o a h b
 
 pub rest-returns-in_err-left : goal.rest-returns-in_err-left
-rest-returns-in_err-left g t c = record { reads = λ o a at h w s b. let k = c.loop-do_owner.invariant o a at h w s b in handed _ _ c.from_residual.ensures.1 (fails _ _ _ _ o k (sym (c.joins_here.ensures.is _ _ k.stands) ∙ c.loop-do_owner-test.true) (turned_by c.args.context.source.now (read_level c.args.context.source.now (g.N.Nested.readers c.args.nested.now c.args.context.source.now) (levels_of c.args.below) (do_owner_of c.args.do_owner)) o k.tree k.toks k.scope c.operation-operation.ensures (c.in_err-left.ensures.reads o k.tree at k.holds k.toks k.scope k.stands))) }
+rest-returns-in_err-left g t c = record { reads = λ o a at h w s b. let k = c.loop-do_owner.invariant o a at h w s b in handed _ _ c.from_residual.ensures.1 (fails _ _ _ _ o k (sym (c.joins_here.ensures.is _ _ k.stands) ∙ c.loop-do_owner-test.true) (turned_by c.args.context.source.now (read_level c.args.context.source.now (g.N.Nested.readers c.args.nested.now c.args.context.source.now) (levels_of c.args.below.now) (do_owner_of c.args.do_owner)) o k.tree k.toks k.scope c.operation-operation.ensures (c.in_err-left.ensures.reads o k.tree at k.holds k.toks k.scope k.stands))) }
 
 pub rest-loop-do_owner-preserved : goal.rest-loop-do_owner-preserved
 rest-loop-do_owner-preserved g t c = λ o a at h w s b.
     let k = c.loop-do_owner.invariant o a at h w s b in
     let some : 0 < length c.loop-do_owner.parser.rest.now = c.joins_here.ensures.some c.loop-do_owner-test.true in
     let fewer : length c.turn.new.parser.rest.now ≤ length c.loop-do_owner.parser.rest.now - 1 = c.in_ok-left.ensures.fewer _ refl in
-    goes_on _ _ _ _ o k (sym (c.joins_here.ensures.is _ _ k.stands) ∙ c.loop-do_owner-test.true) (omega arith) (turned_by c.args.context.source.now (read_level c.args.context.source.now (g.N.Nested.readers c.args.nested.now c.args.context.source.now) (levels_of c.args.below) (do_owner_of c.args.do_owner)) o k.tree k.toks k.scope c.operation-operation.ensures (c.in_ok-left.ensures.reads o k.tree at k.holds k.toks k.scope k.stands))
+    goes_on _ _ _ _ o k (sym (c.joins_here.ensures.is _ _ k.stands) ∙ c.loop-do_owner-test.true) (omega arith) (turned_by c.args.context.source.now (read_level c.args.context.source.now (g.N.Nested.readers c.args.nested.now c.args.context.source.now) (levels_of c.args.below.now) (do_owner_of c.args.do_owner)) o k.tree k.toks k.scope c.operation-operation.ensures (c.in_ok-left.ensures.reads o k.tree at k.holds k.toks k.scope k.stands))
 
 pub rest-returns : goal.rest-returns
 rest-returns g t c = record { reads = λ o a at h w s b. let k = c.loop-do_owner.invariant o a at h w s b in ends _ _ _ _ o k (sym (c.joins_here.ensures.is _ _ k.stands) ∙ c.loop-do_owner-test.false) }
 
-pub turn-returns-in_err-right-clause-reads : goal.turn-returns-in_err-right-clause-reads
-turn-returns-in_err-right-clause-reads g t c = λ o a at h w s b. from c.bump.ensures.later (handed _ _ c.from_residual.ensures.1 (failed _ (c.in_err-right.ensures.reads _ _ (c.bump.ensures.at w s b))))
-
 pub turn-returns-clause-reads : goal.turn-returns-clause-reads
 turn-returns-clause-reads g t c = λ o a at h w s b.
-    let read = c.in_ok-right.ensures.reads _ _ (c.bump.ensures.at w s b) in
-    let on = later_then c.bump.ensures.later (later_of read) in
-    from c.bump.ensures.later (and_then read (λ x r z n k. c.made.ensures.gives o w a x at c.lookahead-operator.ensures.source (sees c.lookahead-operator.ensures.rest b) (later _ _ on.names _ _ h) k r z n))
+    from c.bump.ensures.later (c.made_with.ensures.gives _ o w a _ at c.lookahead-operator.ensures.source (sees c.lookahead-operator.ensures.rest b) (later _ _ c.bump.ensures.later.names _ _ h) (c.operand-right.ensures.reads _ _ (c.bump.ensures.at w s b)))
 
 pub turn-returns-clause-fewer : goal.turn-returns-clause-fewer
 turn-returns-clause-fewer g t c = λ x is.
-    let read = later_of (c.in_ok-right.ensures.reads _ _ (here _)) in
-    let made = c.made.ensures.later x is in
+    let made = c.made_with.ensures.later _ _ x (c.operand-right.ensures.reads _ _ (here _)) is in
     let one : length c.bump.new.self.rest.now ≡ length c.args.parser.now.rest.now - 1 = c.bump.ensures.rest in
-    let two : length c.up_to.new.parser.rest.now ≤ length c.bump.new.self.rest.now = read.rest in
-    let three : length c.made.new.parser.rest.now ≤ length c.up_to.new.parser.rest.now = made.rest in
+    let two : length c.made_with.new.parser.rest.now ≤ length c.bump.new.self.rest.now = made.rest in
     omega arith
 
-pub up_to-returns-in_err-first : goal.up_to-returns-in_err-first
+pub operand-returns-in_err-first : goal.operand-returns-in_err-first
 unfolding read_level
-up_to-returns-in_err-first g t c = record { reads = λ w s a. handed _ _ c.from_residual.ensures.1 (failed _ (c.in_err-first.ensures.reads w s a)) }
+operand-returns-in_err-first g t c = record { reads = λ w s a. handed _ _ c.from_residual.ensures.1 (failed _ (c.in_err-first.ensures.reads w s a)) }
 
-pub up_to-returns : goal.up_to-returns
+pub operand-returns : goal.operand-returns
 unfolding read_level
-up_to-returns g t c = record { reads = λ w s a. and_then (c.in_ok-first.ensures.reads w s a) (λ x r z b h. c.climb_to.ensures.reads w x (c.position-here.ensures ∙ ap position (sees c.lookahead.ensures.rest a)) h r z b) }
+operand-returns g t c = record { reads = λ w s a. and_then (c.in_ok-first.ensures.reads w s a) (λ x r z b h. c.over.ensures.reads w x (c.position-here.ensures ∙ ap position (sees c.lookahead.ensures.rest a)) h r z b) }

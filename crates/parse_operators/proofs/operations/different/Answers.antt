@@ -1,5 +1,4 @@
 use Rattle.std.proofs.Common.{refl}
-use Rattle.tree_builder.proofs.GoesOn.{later}
 use Rattle.parse_state.proofs.Steps.{later_then, step, cut, handed, wanting}
 use Rattle.parse_operators.proofs.Parts.{not_ok}
 use Rattle.parse_operators.proofs.operations.different.Goals as goal

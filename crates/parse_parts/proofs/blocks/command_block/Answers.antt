@@ -1,7 +1,7 @@
 use Rattle.reference_parser.specs.ReadBodies.{command_block}
 use Rattle.parse_parts.proofs.PassingSteps.{has_one, opens_none, opens_one}
 use Rattle.parse_state.proofs.Seen.{seen_in, sees}
-use Rattle.parse_state.proofs.Steps.{and_then, failed, handed, later_same, no, wanting, yes}
+use Rattle.parse_state.proofs.Steps.{later_same, no, yes}
 use Rattle.parse_state.specs.Gives.{gave}
 use Rattle.token_lookahead.specs.Lookaheads.{do_owner_of}
 use Rattle.ruby_tree.specs.Rules.{opens_do}
@@ -12,16 +12,9 @@ pub returns-then-is_given : goal.returns-then-is_given
 unfolding command_block
 returns-then-is_given g c = record { reads = λ x is h w s a. no _ (has_one _ (sym is ∙ c.if-is_given.true)) (gave a (later_same _) h) }
 
-pub returns-in_err-block : goal.returns-in_err-block
-unfolding command_block
-returns-in_err-block g c = record { reads = λ x is h w s a. handed _ _ c.from_residual.ensures.1 (yes _ (opens_one (seen_in (λ v t. opens_do v (do_owner_of c.args.do_owner) t) c.opens_do.ensures c.lookahead.ensures.source (sees c.lookahead.ensures.rest a) c.if-opens_do.true) (sym is ∙ c.if-is_given.false)) (failed _ (c.in_err-block.ensures.reads w s a))) }
-
-pub returns-in_err-some : goal.returns-in_err-some
-returns-in_err-some g c = record { reads = λ x is h w s a. wanting _ c.from_residual-in_err-some.ensures.1 }
-
 pub returns-then-opens_do : goal.returns-then-opens_do
 unfolding command_block
-returns-then-opens_do g c = record { reads = λ x is h w s a. yes _ (opens_one (seen_in (λ v t. opens_do v (do_owner_of c.args.do_owner) t) c.opens_do.ensures c.lookahead.ensures.source (sees c.lookahead.ensures.rest a) c.if-opens_do.true) (sym is ∙ c.if-is_given.false)) (and_then (c.in_ok-block.ensures.reads w s a) (λ t r z b i. gave b (later_same _) (c.in_ok-some.ensures _ t i))) }
+returns-then-opens_do g c = record { reads = λ x is h w s a. yes _ (opens_one (seen_in (λ v t. opens_do v (do_owner_of c.args.do_owner) t) c.opens_do.ensures c.lookahead.ensures.source (sees c.lookahead.ensures.rest a) c.if-opens_do.true) (sym is ∙ c.if-is_given.false)) (c.as_given.ensures _ _ _ (c.do_block.ensures.reads w s a)) }
 
 pub returns : goal.returns
 unfolding command_block

@@ -2,7 +2,7 @@ use Rattle.tree_builder.proofs.GoesOn.{later, all_later, other_later, named_late
 use Rattle.reference_parser.specs.ReadStatements.{command_by}
 use Rattle.parse_state.specs.Gives.{gave}
 use Rattle.parse_state.proofs.Steps.{later_same, later_then, failed, handed, wanting}
-use Rattle.parse_operands.proofs.Tools.{so}
+use Rattle.parse_state.proofs.Tools.{so}
 use Rattle.parse_statements.proofs.commands.command_behind.Goals as goal
 
 pub returns-in_err-given : goal.returns-in_err-given

@@ -4,7 +4,7 @@ use Rattle.tree_builder.proofs.GoesOn.{all_later, other_later}
 use Rattle.parse_state.specs.Gives.{gave}
 use Rattle.parse_state.proofs.Steps.{later_same, from, failed, handed}
 use Rattle.parse_state.proofs.Seen.{sees}
-use Rattle.parse_operands.proofs.Tools.{at_spot, super_spread, so}
+use Rattle.parse_state.proofs.Tools.{at_spot, super_spread, so}
 use Rattle.parse_statements.proofs.commands.super_command.Goals as goal
 
 pub returns-in_err-given : goal.returns-in_err-given

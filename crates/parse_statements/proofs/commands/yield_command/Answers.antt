@@ -3,7 +3,7 @@ use Rattle.ruby_tree.specs.Rules.{next, position}
 use Rattle.parse_state.specs.Gives.{gave, no_syntax}
 use Rattle.parse_state.proofs.Steps.{later_same, from, yes, no, failed, handed}
 use Rattle.parse_state.proofs.Seen.{sees}
-use Rattle.parse_operands.proofs.Tools.{at_spot, yield_spread, so}
+use Rattle.parse_state.proofs.Tools.{at_spot, yield_spread, so}
 use Rattle.parse_statements.proofs.commands.yield_command.Goals as goal
 
 pub returns-in_err-given : goal.returns-in_err-given
