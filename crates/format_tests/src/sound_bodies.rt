@@ -77,11 +77,15 @@ const INSTRUCTIONS: &[Spelling] = &[
 /// Puts a number in LEB128.
 fn put_number(out: &mut Vec<u8>, number: u64) -> Result<(), AllocError> {
     let mut left = number;
-    while left >= 128 {
+    // (64 bits have ten groups of seven at most)
+    for _ in 0..9 {
+        if left < 128 {
+            break;
+        }
         out.push((left % 128) as u8 + 128)?;
         left /= 128;
     }
-    out.push(left as u8)?;
+    out.push((left % 128) as u8)?;
     Ok(())
 }
 
