@@ -77,10 +77,7 @@ fn brace_block<N: Nested>(
 }
 
 // A block that was read, as what a call is given.
-fn as_given(
-    context: Context<'_>,
-    block: Result<Subtree, Failure>,
-) -> Result<ElseSubtree, Failure>
+fn as_given(context: Context<'_>, block: Result<Subtree, Failure>) -> Result<ElseSubtree, Failure>
     ensures { (p q : Parser) (a : Answer Tree) → Gives Holds p q block a → Gives HoldsOther p q result (as_given a) }
 {
     let block = block?;

@@ -113,8 +113,7 @@ impl<F: Fn(NestedSymbol, Context<'_>, &mut Parser<'_>, DoBlockOwner) -> Found> N
 }
 
 impl<F: Fn(NestedSymbol, Context<'_>, &mut Parser<'_>, DoBlockOwner) -> Found> Operands
-    for Below<F>
-{
+    for Below<F> {
     fn postfix(
         &self,
         context: Context<'_>,
@@ -126,8 +125,7 @@ impl<F: Fn(NestedSymbol, Context<'_>, &mut Parser<'_>, DoBlockOwner) -> Found> O
 }
 
 impl<F: Fn(NestedSymbol, Context<'_>, &mut Parser<'_>, DoBlockOwner) -> Found> Operators
-    for Below<F>
-{
+    for Below<F> {
     fn level(
         &self,
         context: Context<'_>,

@@ -86,7 +86,11 @@ fn is_fault(outcome: &Result<(), Failure>) -> bool
 }
 
 // Goes on over a statement with its newline.
-fn line<N: Operators>(context: Context<'_>, nested: &N, parser: &mut Parser<'_>) -> Result<(), Failure>
+fn line<N: Operators>(
+    context: Context<'_>,
+    nested: &N,
+    parser: &mut Parser<'_>,
+) -> Result<(), Failure>
     requires { N.IsReady nested.now }
     ensures moves { (w : Toks) (s : Scope) → At parser.old w s → Moves (length parser.old.rest.now) parser.new result (statement_line context.entry.source.now (N.readers nested.now context.entry.source.now) w s) }
 {
