@@ -1,7 +1,5 @@
-//! Tests.
+//! Tests of the compile cache's names and keys.
 #![tactic(auto)]
 
 #[cfg(test)]
 mod cache_key;
-#[cfg(test)]
-mod compile_cache;
