@@ -44,7 +44,12 @@ fn run<H: Threads + Sync>(
     };
     let blank = Blank::new(1);
     let ending = start::<H, SureInput, SureSink, Brand>(
-        threads, rt, alloc, &words, &mut streams, blank,
+        threads,
+        rt,
+        alloc,
+        &words,
+        &mut streams,
+        blank,
     )?;
     Ok(Left {
         status: status(&ending),

@@ -39,7 +39,13 @@ fn run_anew<H: Threads + Sync>(
     line: &str,
     source: &Source<'_>,
 ) -> Result<Outcome, Fail> {
-    outcome_over(threads, alloc, line, source, shelf_of(alloc, Vec::new(alloc)))
+    outcome_over(
+        threads,
+        alloc,
+        line,
+        source,
+        shelf_of(alloc, Vec::new(alloc)),
+    )
 }
 
 /// What a run over this entry of the source comes to.
@@ -115,7 +121,10 @@ fn runs_over_an_entry(rt: HostRuntime) -> Result<(), Fail> {
         let bytes = changed(alloc, entry, &change)?;
         let outcome = run_over(&rt, alloc, NOTED, &source, &bytes)?;
         let notes = format!(in alloc; "[Bootsnap] {event} /main.rb\n")?;
-        assert!(rt; outcome.is(status, output, "", notes.as_str()), "{event} {mtime}");
+        assert!(rt;
+            outcome.is(status, output, "", notes.as_str()),
+            "{event} {mtime}"
+        );
         assert!(rt; outcome.asked(1, reads, past), "{event} {mtime}");
     }
     Ok(())
@@ -197,7 +206,10 @@ fn entries_of_small_files(rt: HostRuntime) -> Result<(), Fail> {
     ] {
         let outcome = run_anew(&rt, alloc, "run e.rb", &e_file(text.as_bytes()))?;
         let entry = outcome.entry("/e.rb").ok_or("no entry")?;
-        assert!(rt; outcome.is(0, "2\na\n", "", "") && entry.get(64..) == Some(DUMP), "{text}");
+        assert!(rt;
+            outcome.is(0, "2\na\n", "", "") && entry.get(64..) == Some(DUMP),
+            "{text}"
+        );
     }
     // Without the cache no shelf is called.
     let line = "run --instrument --cache off e.rb";

@@ -14,7 +14,7 @@ use std::thread::Threads;
 /// Cache files by their names.
 pub type Entries = Vec<(CacheName, Bytes)>;
 
-/// The one file of a tree.
+/// A file of a tree.
 #[derive(Clone, Copy)]
 pub struct Source<'a> {
     pub path: &'a str,
@@ -84,11 +84,11 @@ pub fn words_of(alloc: Global, line: &str) -> Result<Vec<Text>, NoMemory> {
     Ok(words)
 }
 
-/// A tree of the file alone, if there is one, whose call with this number fails.
-pub fn tree_of(alloc: Global, source: Option<&Source<'_>>, fail: u64) -> Result<MemTree, Fail> {
+/// A tree of these files, which lie in `/`, whose call with this number fails.
+pub fn tree_of(alloc: Global, sources: &[Source<'_>], fail: u64) -> Result<MemTree, Fail> {
     let mut items = Vec::new(alloc);
     items.push((Text::new(alloc, b"/")?, MemItem::Dir(1)))?;
-    if let Some(source) = source {
+    for source in sources {
         let file = MemItem::File(Bytes::new(alloc, source.text)?, source.mtime);
         items.push((Text::new(alloc, source.path.as_bytes())?, file))?;
     }
@@ -163,7 +163,7 @@ pub fn outcome_over<H: Threads + Sync>(
     shelf: MemShelf,
 ) -> Result<Outcome, Fail> {
     let outside = Outside {
-        tree: tree_of(alloc, Some(source), 0)?,
+        tree: tree_of(alloc, &[*source], 0)?,
         shelf,
         output: MemSink::new(alloc, Vec::new(alloc)),
         errors: MemSink::new(alloc, Vec::new(alloc)),

@@ -6,15 +6,19 @@ use std::alloc::Global;
 use std::test::Fail;
 use std::thread::Threads;
 
-/// What a run of the file `/main.rb` with this text comes to, where no cache file stands.
-fn run_main<H: Threads + Sync>(threads: &H, alloc: Global, text: &[u8]) -> Result<Outcome, Fail> {
-    let source = Source {
+/// A file `/main.rb` with this text.
+fn main_file(text: &[u8]) -> Source<'_> {
+    Source {
         path: "/main.rb",
         text,
         mtime: 100,
-    };
+    }
+}
+
+/// What a run of the file `/main.rb` with this text comes to, where no cache file stands.
+fn run_main<H: Threads + Sync>(threads: &H, alloc: Global, text: &[u8]) -> Result<Outcome, Fail> {
     let shelf = shelf_of(alloc, Vec::new(alloc));
-    outcome_over(threads, alloc, "run main.rb", &source, shelf)
+    outcome_over(threads, alloc, "run main.rb", &main_file(text), shelf)
 }
 
 #[test]
@@ -81,7 +85,10 @@ fn programs_that_are_no_small_files(rt: HostRuntime) -> Result<(), Fail> {
         "def f\nend\n",
     ] {
         let outcome = run_main(&rt, rt.alloc(), text.as_bytes())?;
-        assert!(rt; outcome.is(207, "", "", "") && outcome.asked(1, 1, 0), "{text}");
+        assert!(rt;
+            outcome.is(207, "", "", "") && outcome.asked(1, 1, 0),
+            "{text}"
+        );
     }
     Ok(())
 }
@@ -100,7 +107,10 @@ fn syntax_errors_have_their_line(rt: HostRuntime) -> Result<(), Fail> {
     ] {
         let outcome = run_main(&rt, rt.alloc(), text.as_bytes())?;
         let errors = format!(in rt.alloc(); "/main.rb:{line}: syntax error (SyntaxError)\n")?;
-        assert!(rt; outcome.is(1, "", errors.as_str(), "") && outcome.asked(1, 1, 0), "{text}");
+        assert!(rt;
+            outcome.is(1, "", errors.as_str(), "") && outcome.asked(1, 1, 0),
+            "{text}"
+        );
     }
     Ok(())
 }
@@ -147,13 +157,12 @@ fn run_failing<H: Threads + Sync>(
     fail: [u64; 3],
 ) -> Result<Outcome, Fail> {
     let [tree, output, errors] = fail;
-    let source = text.map(|text| Source {
-        path: "/main.rb",
-        text,
-        mtime: 100,
-    });
+    let tree = match text {
+        Some(text) => tree_of(alloc, &[main_file(text)], tree)?,
+        None => tree_of(alloc, &[], tree)?,
+    };
     let outside = Outside {
-        tree: tree_of(alloc, source.as_ref(), tree)?,
+        tree,
         shelf: shelf_of(alloc, Vec::new(alloc)),
         output: MemSink::new(alloc, vec![in alloc; output]?),
         errors: MemSink::new(alloc, vec![in alloc; errors]?),
@@ -175,7 +184,14 @@ fn words_and_faults(rt: HostRuntime) -> Result<(), Fail> {
         ("walk", text, [0, 0, 0], 200, "", "bootsnap: word 1\n"),
         ("run", text, [0, 0, 0], 200, "", "bootsnap: word 2\n"),
         ("run -x", text, [0, 0, 0], 200, "", "bootsnap: word 2\n"),
-        ("run main.rb a", text, [0, 0, 0], 200, "", "bootsnap: word 3\n"),
+        (
+            "run main.rb a",
+            text,
+            [0, 0, 0],
+            200,
+            "",
+            "bootsnap: word 3\n",
+        ),
         ("run main.rb", text, [1, 0, 0], 203, "", ""),
         ("run main.rb", text, [2, 0, 0], 203, "", ""),
         ("run main.rb", text, [0, 1, 0], 205, "", ""),
