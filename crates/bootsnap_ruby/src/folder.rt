@@ -2,7 +2,9 @@
 ghost use Rattle.std.specs.Prelude.{◌≡◌, ◌<◌, ◌≤◌, ◌^◌, true, None, IfOk, IfSome};
 ghost use Rattle.std.specs.List.{All};
 ghost use Rattle.bs_outside.specs.Paths.{is_segment};
+ghost use Rattle.bs_outside.specs.Told.{Rose};
 
+use crate::faults::Faults;
 use bs_outside::{Bytes, Items, Kind, Listed, Listing, Stat, Text, Tree, TreeFault, is_segment};
 use std::alloc::Global;
 use std::collections::BTreeMap;
@@ -25,13 +27,16 @@ pub(crate) const CACHE_FOLDER: &str = ".bootsnap";
 #[derive(Drop)]
 pub struct FolderTree<'a, R> {
     rt: &'a R,
-    faults: u64,
+    faults: Faults,
 }
 
 impl<'a, R> FolderTree<'a, R> {
     /// No call failed yet.
     pub fn new(rt: &'a R) -> Self {
-        FolderTree { rt, faults: 0 }
+        FolderTree {
+            rt,
+            faults: Faults::new(),
+        }
     }
 }
 
@@ -48,32 +53,35 @@ impl<R: Files + AllocGlobal + Clone + Drop> Tree for FolderTree<'_, R> {
 
     fn stat(&mut self, _alloc: Global, path: &Text) -> Result<Option<Stat>, TreeFault> {
         match stat_of(self.rt, path.as_slice()) {
-            Ok(found) => return Ok(found),
-            Err(error) if error.kind() == ErrorKind::OutOfMemory => return Err(TreeFault::NoMemory),
-            Err(_) => {}
+            Ok(found) => Ok(found),
+            Err(error) => Err(tree_fault(&mut self.faults, &error)),
         }
-        self.faults = self.faults.saturating_add(1);
-        Err(TreeFault::Failed)
     }
 
     fn list(&mut self, alloc: Global, path: &Text) -> Result<Option<Listing>, TreeFault> {
         match names_of(self.rt, alloc, path.as_slice()) {
-            Ok(found) => return Ok(found),
-            Err(error) if error.kind() == ErrorKind::OutOfMemory => return Err(TreeFault::NoMemory),
-            Err(_) => {}
+            Ok(found) => Ok(found),
+            Err(error) => Err(tree_fault(&mut self.faults, &error)),
         }
-        self.faults = self.faults.saturating_add(1);
-        Err(TreeFault::Failed)
     }
 
     fn read(&mut self, alloc: Global, path: &Text) -> Result<Option<Bytes>, TreeFault> {
         match bytes_of(self.rt, alloc, path.as_slice()) {
-            Ok(found) => return Ok(found),
-            Err(error) if error.kind() == ErrorKind::OutOfMemory => return Err(TreeFault::NoMemory),
-            Err(_) => {}
+            Ok(found) => Ok(found),
+            Err(error) => Err(tree_fault(&mut self.faults, &error)),
         }
-        self.faults = self.faults.saturating_add(1);
-        Err(TreeFault::Failed)
+    }
+}
+
+/// What a call answers after the error. All but want of memory is counted.
+fn tree_fault(faults: &mut Faults, error: &io::Error) -> TreeFault
+    ensures counted { faults.old ≤ faults.new }
+    ensures failed { result ≡ TreeFault.Failed → Rose faults.old faults.new }
+{
+    if faults.is_memory(error) {
+        TreeFault::NoMemory
+    } else {
+        TreeFault::Failed
     }
 }
 

@@ -3,6 +3,7 @@
 
 ghost use Rattle.std.specs.Prelude.{◌≡◌, IfOk, vec_len};
 
+mod faults;
 mod folder;
 #[cfg(test)]
 mod run_tests;
@@ -12,7 +13,7 @@ mod streams;
 mod tests;
 
 use bootsnap_top::{Desk, Ending, bootsnap, status};
-use bs_outside::{Steps, Text};
+use bs_outside::{Input, Sink, Steps, Text};
 use folder::FolderTree;
 use shelf::FolderShelf;
 use std::alloc::{AllocError, Global};
@@ -55,22 +56,22 @@ fn desks<R: Files>(rt: &R, alloc: Global) -> Result<Vec<FolderDesk<'_, R>>, Allo
     Ok(desks)
 }
 
-/// Standard input, output and error. The notes go to standard error too.
+/// Where the input comes from, and where the output, the error text and the notes go.
 #[derive(Drop)]
-struct Standards {
-    input: StreamInput<Stdin>,
-    out: StreamSink<Standard>,
-    err: StreamSink<Standard>,
-    note: StreamSink<Standard>,
+struct CallStreams<I, O> {
+    input: I,
+    out: O,
+    err: O,
+    note: O,
 }
 
 /// Does what the words ask for, in the folder in which the program runs. The blank ledger is the one that `L` names.
-fn start<H: Threads + Sync, L: Ledger>(
+fn start<H: Threads + Sync, I: Input, O: Sink, L: Ledger>(
     threads: &H,
     rt: &HostRuntime,
     alloc: Global,
     words: &[Text],
-    standards: Standards,
+    streams: &mut CallStreams<I, O>,
     blank: Blank,
 ) -> Result<Ending, AllocError>
     requires name { blank.name ≡ L.name }
@@ -78,15 +79,17 @@ fn start<H: Threads + Sync, L: Ledger>(
     requires some { blank.parts ≡ 1 }
 {
     let mut desks = desks(rt, alloc)?;
-    let Standards {
-        mut input,
-        mut out,
-        mut err,
-        mut note,
-    } = standards;
     let mut steps = Steps::<L>::new(blank);
     let done = bootsnap(
-        threads, alloc, words, &mut desks, &mut input, &mut out, &mut err, &mut note, &mut steps,
+        threads,
+        alloc,
+        words,
+        &mut desks,
+        &mut streams.input,
+        &mut streams.out,
+        &mut streams.err,
+        &mut streams.note,
+        &mut steps,
     );
     Ok(done.ending)
 }
@@ -103,13 +106,22 @@ fn main(rt: HostRuntime) -> ExitCode {
             return ExitCode::from(status(&Ending::Usage(1)));
         }
     };
-    let standards = Standards {
+    // The notes go to standard error too.
+    let mut streams = CallStreams {
         input: StreamInput::new(rt.stdin()),
         out: StreamSink::new(Standard::Output(rt.stdout())),
         err: StreamSink::new(Standard::Error(rt.stderr())),
         note: StreamSink::new(Standard::Error(rt.stderr())),
     };
-    match start::<HostRuntime, Brand>(&rt, &rt, alloc, &words, standards, Blank::new(1)) {
+    let blank = Blank::new(1);
+    match start::<HostRuntime, StreamInput<Stdin>, StreamSink<Standard>, Brand>(
+        &rt,
+        &rt,
+        alloc,
+        &words,
+        &mut streams,
+        blank,
+    ) {
         Ok(ending) => ExitCode::from(status(&ending)),
         Err(_) => ExitCode::from(status(&Ending::NoMemory)),
     }

@@ -3,7 +3,9 @@ ghost use Rattle.std.specs.Prelude.{◌≡◌, ◌<◌, ◌≤◌, false, length
 ghost use Rattle.bs_outside.specs.Told.{Rose};
 ghost use Rattle.mem_outside.specs.Nothing.{nothing_told};
 
+use crate::faults::Faults;
 use crate::folder::{CACHE_FOLDER, entry, file_bytes, is_below_folders};
+use crate::streams::write_some;
 use bs_outside::{CacheName, Image, Shelf, ShelfFault, Temp};
 use cache_key::name_text;
 use std::alloc::Global;
@@ -31,7 +33,7 @@ struct Writing<F> {
 pub struct FolderShelf<'a, R: Files> {
     rt: &'a R,
     is_prepared: bool,
-    faults: u64,
+    faults: Faults,
     begun: usize,
     writing: Vec<Writing<R::File>>,
 }
@@ -42,7 +44,7 @@ impl<'a, R: Files> FolderShelf<'a, R> {
         FolderShelf {
             rt,
             is_prepared: false,
-            faults: 0,
+            faults: Faults::new(),
             begun: 0,
             writing: Vec::new(alloc),
         }
@@ -65,11 +67,11 @@ impl<'a, R: Files> FolderShelf<'a, R> {
         ensures counted { self.old.faults ≤ self.new.faults }
         ensures failed { result ≡ ShelfFault.Failed → Rose self.old.faults self.new.faults }
     {
-        if error.kind() == ErrorKind::OutOfMemory {
-            return ShelfFault::NoMemory;
+        if self.faults.is_memory(error) {
+            ShelfFault::NoMemory
+        } else {
+            ShelfFault::Failed
         }
-        self.faults = self.faults.saturating_add(1);
-        ShelfFault::Failed
     }
 
     /// An empty temporary for the cache file at the path, with the next number.
@@ -228,19 +230,6 @@ fn write_to<F: Write>(writing: &mut [Writing<F>], number: usize, piece: &[u8]) -
         }
     }
     Err(io::Error::from(ErrorKind::NotFound))
-}
-
-fn write_some<F: Write>(file: &mut F, piece: &[u8]) -> io::Result<usize>
-    ensures within { IfOk result (λ count. count ≤ length piece.now) }
-    ensures some { IfOk result (λ count. 0 < length piece.now → 0 < count) }
-{
-    if piece.is_empty() {
-        return Ok(0);
-    }
-    match file.write(piece)? {
-        0 => Err(io::Error::from(ErrorKind::WriteZero)),
-        count => Ok(count),
-    }
 }
 
 /// Closes the temporary and gives the name its file. Where that fails the file is taken away.

@@ -1,6 +1,8 @@
 //! Inputs and sinks over streams.
-ghost use Rattle.std.specs.Prelude.{◌≡◌, None};
+ghost use Rattle.std.specs.Prelude.{◌≡◌, ◌<◌, ◌≤◌, None, IfOk, length};
+ghost use Rattle.bs_outside.specs.Told.{Rose};
 
+use crate::faults::Faults;
 use bs_outside::{Bytes, Input, InputFault, Sink, SinkFault};
 use std::alloc::Global;
 use std::io;
@@ -10,13 +12,16 @@ use std::io::{ErrorKind, Read, Stderr, Stdout, Write};
 #[derive(Drop)]
 pub struct StreamSink<W> {
     to: W,
-    faults: u64,
+    faults: Faults,
 }
 
 impl<W> StreamSink<W> {
     /// No call failed yet.
     pub fn new(to: W) -> Self {
-        StreamSink { to, faults: 0 }
+        StreamSink {
+            to,
+            faults: Faults::new(),
+        }
     }
 }
 
@@ -27,18 +32,36 @@ impl<W: Write> Sink for StreamSink<W> {
 
     #[tactic(auto, using(bs_outside::proofs::Owing::none_came))]
     fn put(&mut self, _alloc: Global, piece: &[u8]) -> Result<usize, SinkFault> {
-        if piece.is_empty() {
-            return Ok(0);
+        match write_some(&mut self.to, piece) {
+            Ok(count) => Ok(count),
+            Err(error) => Err(sink_fault(&mut self.faults, &error)),
         }
-        match self.to.write(piece) {
-            Ok(count) if count > 0 => return Ok(count),
-            Err(error) if error.kind() == ErrorKind::OutOfMemory => {
-                return Err(SinkFault::NoMemory);
-            }
-            _ => {}
-        }
-        self.faults = self.faults.saturating_add(1);
-        Err(SinkFault::Failed)
+    }
+}
+
+/// What a call answers after the error. All but want of memory is counted.
+fn sink_fault(faults: &mut Faults, error: &io::Error) -> SinkFault
+    ensures counted { faults.old ≤ faults.new }
+    ensures failed { result ≡ SinkFault.Failed → Rose faults.old faults.new }
+{
+    if faults.is_memory(error) {
+        SinkFault::NoMemory
+    } else {
+        SinkFault::Failed
+    }
+}
+
+/// Writes the first bytes of the piece, and answers how many.
+pub(crate) fn write_some<F: Write>(file: &mut F, piece: &[u8]) -> io::Result<usize>
+    ensures within { IfOk result (λ count. count ≤ length piece.now) }
+    ensures some { IfOk result (λ count. 0 < length piece.now → 0 < count) }
+{
+    if piece.is_empty() {
+        return Ok(0);
+    }
+    match file.write(piece)? {
+        0 => Err(io::Error::from(ErrorKind::WriteZero)),
+        count => Ok(count),
     }
 }
 
@@ -69,13 +92,16 @@ impl Write for Standard {
 #[derive(Drop)]
 pub struct StreamInput<R> {
     from: R,
-    faults: u64,
+    faults: Faults,
 }
 
 impl<R> StreamInput<R> {
     /// No call failed yet.
     pub fn new(from: R) -> Self {
-        StreamInput { from, faults: 0 }
+        StreamInput {
+            from,
+            faults: Faults::new(),
+        }
     }
 }
 
@@ -85,19 +111,31 @@ impl<R: Read> Input for StreamInput<R> {
     ghost faults = { λ s. s.faults };
 
     fn take(&mut self, alloc: Global, max: usize) -> Result<Bytes, InputFault> {
-        let mut buffer = [0u8; 4096];
-        let wanted = max.min(buffer.len());
-        match self.from.read(&mut buffer[..wanted]) {
-            Ok(count) => match Bytes::new(alloc, &buffer[..count]) {
-                Ok(bytes) => return Ok(bytes),
-                Err(_) => return Err(InputFault::NoMemory),
-            },
-            Err(error) if error.kind() == ErrorKind::OutOfMemory => {
-                return Err(InputFault::NoMemory);
-            }
-            Err(_) => {}
+        match read_some(alloc, &mut self.from, max) {
+            Ok(bytes) => Ok(bytes),
+            Err(error) => Err(input_fault(&mut self.faults, &error)),
         }
-        self.faults = self.faults.saturating_add(1);
-        Err(InputFault::Failed)
+    }
+}
+
+/// Reads at most so many bytes.
+fn read_some<R: Read>(alloc: Global, from: &mut R, max: usize) -> io::Result<Bytes>
+    ensures { IfOk result (λ bytes. length bytes ≤ max) }
+{
+    let mut buffer = [0u8; 4096];
+    let wanted = max.min(buffer.len());
+    let count = from.read(&mut buffer[..wanted])?;
+    Ok(Bytes::new(alloc, &buffer[..count])?)
+}
+
+/// What a call answers after the error. All but want of memory is counted.
+fn input_fault(faults: &mut Faults, error: &io::Error) -> InputFault
+    ensures counted { faults.old ≤ faults.new }
+    ensures failed { result ≡ InputFault.Failed → Rose faults.old faults.new }
+{
+    if faults.is_memory(error) {
+        InputFault::NoMemory
+    } else {
+        InputFault::Failed
     }
 }

@@ -1,7 +1,5 @@
-//! Tests of the compile cache: its names and keys, and its calls.
+//! Tests of the compile cache's names and keys.
 #![tactic(auto)]
 
-#[cfg(test)]
-mod compile_cache;
 #[cfg(test)]
 mod names_and_keys;

@@ -1,11 +1,11 @@
-//! Tests.
+//! Tests of whole runs, over the outside in memory.
 #![tactic(auto)]
 
 #[cfg(test)]
-mod bootsnap_top;
+mod cached;
 #[cfg(test)]
-mod bootsnap_top_cache;
+mod outcomes;
 #[cfg(test)]
-mod bootsnap_top_machine;
+mod programs;
 #[cfg(test)]
-mod bootsnap_top_planning;
+mod words;

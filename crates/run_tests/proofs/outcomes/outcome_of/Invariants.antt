@@ -1,4 +1,4 @@
-use Rattle.bootsnap_top.proofs.cache_tests.no_shelf_is_called_without_the_cache.Given as goal
+use Rattle.run_tests.proofs.outcomes.outcome_of.Given as goal
 
 -- the ledger is the blank one
 abbrev pub ghosts-call : goal.ghosts-call

@@ -1,20 +1,11 @@
 //! Rows of words, with what they ask for.
+use crate::outcomes::words_of;
 use bootsnap_top::{PlanError, Planned, Usage, plan};
-use bs_outside::{NoMemory, Text};
 use compile_cache::CacheUse;
-use std::alloc::Global;
-
-/// The words between the spaces of the line.
-fn words_in(alloc: Global, line: &str) -> Result<Vec<Text>, NoMemory> {
-    let mut words = Vec::new(alloc);
-    for word in line.split_whitespace() {
-        words.push(Text::new(alloc, word.as_bytes())?)?;
-    }
-    Ok(words)
-}
+use std::test::Fail;
 
 #[test]
-fn the_first_bad_word_counts(rt: HostRuntime) -> anyhow::Result<()> {
+fn the_first_bad_word_counts(rt: HostRuntime) -> Result<(), Fail> {
     let alloc = rt.alloc();
     for (line, place) in [
         // the first word
@@ -53,7 +44,7 @@ fn the_first_bad_word_counts(rt: HostRuntime) -> anyhow::Result<()> {
         ("run m.rb --instrument", 3),
         ("run --cache on --instrument m.rb --cache", 6),
     ] {
-        match plan(alloc, &words_in(alloc, line)?) {
+        match plan(alloc, &words_of(alloc, line)?) {
             Ok(_) => assert!(rt; false, "{line}"),
             Err(PlanError::Usage(Usage(bad))) => assert_eq!(rt; bad, place, "{line}"),
             Err(PlanError::NoMemory) => return Err(PlanError::NoMemory.into()),
@@ -63,7 +54,7 @@ fn the_first_bad_word_counts(rt: HostRuntime) -> anyhow::Result<()> {
 }
 
 #[test]
-fn options_stand_in_any_order(rt: HostRuntime) -> anyhow::Result<()> {
+fn options_stand_in_any_order(rt: HostRuntime) -> Result<(), Fail> {
     let alloc = rt.alloc();
     for (line, cache_use, noted, path) in [
         ("run m.rb", CacheUse::On, false, "/m.rb"),
@@ -90,7 +81,7 @@ fn options_stand_in_any_order(rt: HostRuntime) -> anyhow::Result<()> {
             mode,
             instrument,
             file,
-        } = plan(alloc, &words_in(alloc, line)?)?;
+        } = plan(alloc, &words_of(alloc, line)?)?;
         assert_eq!(rt; mode.cache, cache_use, "{line}");
         assert_eq!(rt; instrument, noted, "{line}");
         assert!(rt; file.as_slice() == path.as_bytes(), "{line}");
