@@ -22,7 +22,7 @@ use std::marker::Brand;
 use std::process::ExitCode;
 use std::rt::{Env, Files};
 use std::sync::ledger::{Blank, Ledger};
-use std::thread::Threads;
+use std::thread::{Builder, Threads};
 use std::{env, io};
 use streams::{Standard, StreamInput, StreamSink};
 
@@ -94,16 +94,20 @@ fn start<H: Threads + Sync, I: Input, O: Sink, L: Ledger>(
     Ok(done.ending)
 }
 
-fn main(rt: HostRuntime) -> ExitCode {
+/// The stack of the thread in which the program runs, in bytes: four times what the deepest text takes.
+const STACK: usize = 64 << 20;
+
+/// Runs the program, and answers its status.
+fn run<H: Threads + Sync>(threads: &H, rt: &HostRuntime) -> u8 {
     let alloc = rt.alloc();
-    let words = match words(&rt, alloc) {
+    let words = match words(rt, alloc) {
         Ok(words) => words,
-        Err(error) if error.kind() == io::ErrorKind::OutOfMemory => return ExitCode::from(status(
-            &Ending::NoMemory,
-        )),
+        Err(error) if error.kind() == io::ErrorKind::OutOfMemory => {
+            return status(&Ending::NoMemory);
+        }
         Err(_) => {
             let _ = eprintln!(rt; "bootsnap: a word is not UTF-8");
-            return ExitCode::from(status(&Ending::Usage(1)));
+            return status(&Ending::Usage(1));
         }
     };
     // The notes go to standard error too.
@@ -114,15 +118,26 @@ fn main(rt: HostRuntime) -> ExitCode {
         note: StreamSink::new(Standard::Error(rt.stderr())),
     };
     let blank = Blank::new(1);
-    match start::<HostRuntime, StreamInput<Stdin>, StreamSink<Standard>, Brand>(
-        &rt,
-        &rt,
+    match start::<H, StreamInput<Stdin>, StreamSink<Standard>, Brand>(
+        threads,
+        rt,
         alloc,
         &words,
         &mut streams,
         blank,
     ) {
-        Ok(ending) => ExitCode::from(status(&ending)),
+        Ok(ending) => status(&ending),
+        Err(_) => status(&Ending::NoMemory),
+    }
+}
+
+fn main(rt: HostRuntime) -> ExitCode {
+    // A text of a kilobyte can nest so deep that the stack of a main thread, 8 MiB mostly, does not hold it.
+    match Builder::new()
+        .stack_size(STACK)
+        .spawn(&rt, move || run(&rt, &rt))
+    {
+        Ok(thread) => ExitCode::from(thread.join(&rt)),
         Err(_) => ExitCode::from(status(&Ending::NoMemory)),
     }
 }

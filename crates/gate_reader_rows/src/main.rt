@@ -11,13 +11,19 @@ mod pieces;
 mod repeats;
 mod rows;
 
+use anyhow::bail;
 use rows::{Form, answer, repeated_answer};
 use std::io;
 use std::io::{BufRead, BufReader, BufWriter, Write};
+use std::thread::Builder;
 
-fn main(rt: HostRuntime) -> anyhow::Result<()> {
+/// The stack of the thread in which the texts are read, in bytes: four times what the deepest of them takes.
+const STACK: usize = 64 << 20;
+
+/// Prints the rows.
+fn print_rows(rt: &HostRuntime) -> anyhow::Result<()> {
     let alloc = rt.alloc();
-    let mut out = BufWriter::new(alloc, io::writer(&rt))?;
+    let mut out = BufWriter::new(alloc, io::writer(rt))?;
     let mut form = Form::Trees;
     for line in BufReader::new(alloc, rt.reader())?.lines(alloc) {
         let line = line?;
@@ -32,5 +38,16 @@ fn main(rt: HostRuntime) -> anyhow::Result<()> {
         out.write_all(b"\n")?;
     }
     out.flush()?;
+    Ok(())
+}
+
+fn main(rt: HostRuntime) -> anyhow::Result<()> {
+    let printed = Builder::new()
+        .stack_size(STACK)
+        .spawn(&rt, move || print_rows(&rt).is_ok())?
+        .join(&rt);
+    if !printed {
+        bail!("a row could not be printed");
+    }
     Ok(())
 }
