@@ -1,4 +1,4 @@
-use Rattle.bootsnap_ruby.proofs.main.Given as goal
+use Rattle.bootsnap_ruby.proofs.run.Given as goal
 
 -- the ledger is the blank one
 abbrev pub ghosts-start : goal.ghosts-start
