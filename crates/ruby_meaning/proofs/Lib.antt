@@ -1,6 +1,7 @@
 pub mod NativeRows
 pub mod NativeTexts
 pub mod Rows
+pub mod DataRow
 pub mod Leading
 pub mod Relation
 pub mod Changes
@@ -15,3 +16,4 @@ pub mod Constructs
 pub mod MoreTurns
 pub mod Plans
 pub mod WordRows
+pub mod OneAnswer

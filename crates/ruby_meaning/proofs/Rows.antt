@@ -2,7 +2,7 @@
 use Rattle.std.proofs.Common.{refl}
 use Rattle.std.specs.Fmt.{digits}
 use Rattle.std.specs.Str.{is_utf8, chars}
-use Rattle.ruby_meaning.specs.Rows.{sum_row, require_twice, missing_feature, raise_in_feature, cycle_of_features, break_through_ensure, turns_are_spent, no_turn, too_large, floor_of_quotients, divided_by_zero, texts_of_values, exit_runs_ensure, exit_out_of_range, retries, retry_in_a_body, retry_in_an_else, lines_of_input, order_of_parts, block_outlives_method, break_of_ended_call, return_of_ended_method, return_from_block, super_rows, constants_outward, missing_constant, wrong_count, parameters, spread, class_bodies, superclass_mismatch, case_of_values, case_in_a_clause, case_in_an_ensure, raised_again, bare_name, loops, frozen, block_locals, operators, missing_program, load_twice, relative, given_blocks, ensure_replaces, return_in_file_block, singleton_refused, stack_too_deep, block_values, module_methods, global_names, yield_without_block, ensure_and_break, exact_turns, one_turn_less, count_before_turn, turn_before_depth, return_through_block, raise_in_else, rescue_of_no_class, several_classes, own_to_s, place_in_a_block, frozen_features, no_text, super_on_self, lexical_constants, locals_of_modifiers, order_of_a_call, reopened, self_methods, data_row, data_fault_row, trace_row, faulty_program, cells_of_a_text, indexed_asks, other_asks, cells_of_a_local, cells_of_a_hash, cells_of_a_class, cells_of_a_proc, cells_of_an_exception}
+use Rattle.ruby_meaning.specs.Rows.{sum_row, require_twice, missing_feature, raise_in_feature, cycle_of_features, break_through_ensure, turns_are_spent, no_turn, too_large, floor_of_quotients, divided_by_zero, texts_of_values, exit_runs_ensure, exit_out_of_range, retries, retry_in_a_body, retry_in_an_else, lines_of_input, order_of_parts, block_outlives_method, break_of_ended_call, return_of_ended_method, return_from_block, super_rows, constants_outward, missing_constant, wrong_count, parameters, spread, class_bodies, superclass_mismatch, case_of_values, case_in_a_clause, case_in_an_ensure, raised_again, bare_name, loops, frozen, block_locals, operators, missing_program, load_twice, relative, given_blocks, ensure_replaces, return_in_file_block, singleton_refused, stack_too_deep, block_values, module_methods, global_names, yield_without_block, ensure_and_break, exact_turns, one_turn_less, count_before_turn, turn_before_depth, return_through_block, raise_in_else, rescue_of_no_class, several_classes, own_to_s, place_in_a_block, frozen_features, no_text, super_on_self, lexical_constants, locals_of_modifiers, order_of_a_call, reopened, self_methods, data_fault_row, trace_row, faulty_program, cells_of_a_text, indexed_asks, other_asks, cells_of_a_local, cells_of_a_hash, cells_of_a_class, cells_of_a_proc, cells_of_an_exception}
 
 pub sum_row-holds : sum_row
 unfolding digits is_utf8 chars lib.Utf8.encode
@@ -287,10 +287,6 @@ reopened-holds = refl
 pub self_methods-holds : self_methods
 unfolding digits is_utf8 chars lib.Utf8.encode
 self_methods-holds = refl
-
-pub data_row-holds : data_row
-unfolding digits is_utf8 chars lib.Utf8.encode
-data_row-holds = refl
 
 pub data_fault_row-holds : data_fault_row
 unfolding digits is_utf8 chars lib.Utf8.encode

@@ -8,11 +8,13 @@ use Rattle.bs_outside.specs.Paths.{same_bytes, segments_of}
 use Rattle.bs_outside.specs.SourceTree.{SourceTree, stem_of}
 use Rattle.bs_outside.specs.declared.trees.Item.{Item}
 use Rattle.bs_outside.specs.declared.trees.Item.TheVariants as item
+use Rattle.msgpack_codec.specs.declared.value.DataKind.TheVariants as data_kind
 use Rattle.ruby_tree.specs.Names.{Bytes}
-use Rattle.ruby_meaning.specs.World.{FileKind, ruby_file, yaml_file, json_file, Step}
+use Rattle.ruby_meaning.specs.World.{FileKind, ruby_file, data_file, Step}
 use Rattle.ruby_meaning.specs.Files.{Files, RubyFile, no_ruby, ruby_fault, ruby_tree, DataFile, no_data_file, data_fault, data_value}
+use Rattle.ruby_meaning.specs.FilesOf.{ReadsData, DataReader, AreFilesOf, files_of}
 use Rattle.ruby_meaning.specs.Words.{RunPlan, Kinds, PoolPlan, Plan, run_file, precompile, workload, bad, turns_unsaid, plan_of}
-use Rattle.ruby_meaning.specs.PlainRun.{Program, Ending, exit, PlainAnswer, AreFilesOf, IsPlainRun}
+use Rattle.ruby_meaning.specs.PlainRun.{Program, Ending, exit, PlainAnswer, IsPlainRun, plain_run_of}
 
 -- an answer ends as a run does, or at a bad word
 pub data AnswerEnding : Type 0 where
@@ -66,8 +68,8 @@ if_kind false kind = None
 abbrev pub kind_of_path : Kinds → Bytes → Option FileKind
 kind_of_path kinds path =
     cond (has_ending (codes ".rb") path) (if_kind kinds.iseq ruby_file)
-    (cond (has_ending (codes ".yml") path || has_ending (codes ".yaml") path) (if_kind kinds.yaml yaml_file)
-    (cond (has_ending (codes ".json") path) (if_kind kinds.json json_file) None))
+    (cond (has_ending (codes ".yml") path || has_ending (codes ".yaml") path) (if_kind kinds.yaml (data_file data_kind.Yaml))
+    (cond (has_ending (codes ".json") path) (if_kind kinds.json (data_file data_kind.Json)) None))
 
 -- the segment begins with a dot
 abbrev pub is_dot_name : Bytes → Bool
@@ -109,8 +111,7 @@ line_of_datum (data_value d) = None
 -- the line at which what stands at the path cannot be read as this kind
 abbrev pub fault_line : Files → FileKind → Bytes → Option ℕ
 fault_line files ruby_file path = line_of_ruby (files.ruby path)
-fault_line files yaml_file path = line_of_datum (files.datum yaml_file path)
-fault_line files json_file path = line_of_datum (files.datum json_file path)
+fault_line files (data_file kind) path = line_of_datum (files.datum kind path)
 
 -- the paths and fault lines of the jobs that cannot be read
 abbrev pub skipped : Files → List Job → List (Bytes × ℕ)
@@ -186,13 +187,25 @@ workload_lines n output = codes "files " ++ (decimal (n + 1) ++ (codes "\nsum " 
 
 -- The answer.
 
--- The answer to what the words ask for. `reads_data` is what a data file with these contents is read as.
-pub data IsAnswerTo (reads_data : FileKind → Option Bytes → DataFile → Type 0) (tree : SourceTree) (input : Bytes) : Plan → Answer → Type 0 where
-  to_bad : {k : ℕ} → IsAnswerTo reads_data tree input (bad k) (usage_answer k)
-  to_run : {p : RunPlan} {a : PlainAnswer} → IsPlainRun reads_data tree (program_of p input) a → IsAnswerTo reads_data tree input (run_file p) (answer_of_run a)
-  to_precompile : {p : PoolPlan} (files : Files) → AreFilesOf reads_data tree files → IsAnswerTo reads_data tree input (precompile p) (just_writes (report_text files (jobs_of tree p)))
-  to_workload : {n : ℕ} {a : PlainAnswer} → IsPlainRun reads_data (workload_tree n) workload_program a → IsAnswerTo reads_data tree input (workload n) (just_writes (workload_lines n a.output))
+-- The answer to what the words ask for. `reads_data` is what data files are read as.
+pub data IsAnswerTo (reads_data : ReadsData) (source : SourceTree) (input : Bytes) : Plan → Answer → Type 0 where
+  to_bad : {k : ℕ} → IsAnswerTo reads_data source input (bad k) (usage_answer k)
+  to_run : {p : RunPlan} {a : PlainAnswer} → IsPlainRun reads_data source (program_of p input) a → IsAnswerTo reads_data source input (run_file p) (answer_of_run a)
+  to_precompile : {p : PoolPlan} (files : Files) → AreFilesOf reads_data source files → IsAnswerTo reads_data source input (precompile p) (just_writes (report_text files (jobs_of source p)))
+  to_workload : {n : ℕ} {a : PlainAnswer} → IsPlainRun reads_data (workload_tree n) workload_program a → IsAnswerTo reads_data source input (workload n) (just_writes (workload_lines n a.output))
 
 -- the answer to a source tree, words and input
-abbrev pub IsAnswer : (FileKind → Option Bytes → DataFile → Type 0) → SourceTree → List Bytes → Bytes → Answer → Type 0
-IsAnswer reads_data tree words input answer = IsAnswerTo reads_data tree input (plan_of words) answer
+abbrev pub IsAnswer : ReadsData → SourceTree → List Bytes → Bytes → Answer → Type 0
+IsAnswer reads_data source words input answer = IsAnswerTo reads_data source input (plan_of words) answer
+
+-- The same as functions.
+
+abbrev pub answer_to : DataReader → SourceTree → Bytes → Plan → Answer
+answer_to reader source input (bad k) = usage_answer k
+answer_to reader source input (run_file p) = answer_of_run (plain_run_of reader source (program_of p input))
+answer_to reader source input (precompile p) = just_writes (report_text (files_of reader source) (jobs_of source p))
+answer_to reader source input (workload n) = just_writes (workload_lines n (plain_run_of reader (workload_tree n) workload_program).output)
+
+-- the answer to a source tree, words and input
+abbrev pub answer_for : DataReader → SourceTree → List Bytes → Bytes → Answer
+answer_for reader source words input = answer_to reader source input (plan_of words)

@@ -12,6 +12,7 @@ pub mod Files
 pub mod Search
 pub mod Constants
 pub mod Calls
+pub mod NativeAnswer
 pub mod Blocks
 pub mod Loads
 pub mod Invoke
@@ -20,6 +21,7 @@ pub mod ClassBodies
 pub mod Parts
 pub mod Evaluation
 pub mod Prelude
+pub mod FilesOf
 pub mod PlainRun
 pub mod Words
 pub mod AnswerOf

@@ -1,17 +1,19 @@
 -- The plain run of a program: the world of the start, the prelude, the program file, and how the run ends.
-use Rattle.std.specs.Prelude.{◌≡◌, ℕ, zero, suc, ◌+◌, pos, Bool, true, false, cond, nat_eq, nat_le, List, [], ◌∷◌, ◌++◌, map, length, filter_map, Option, Some, None, codes, is_some}
-use Rattle.bs_outside.specs.SourceTree.{SourceTree, bytes_at}
+use Rattle.std.specs.Prelude.{◌≡◌, ℕ, zero, suc, ◌+◌, pos, Bool, true, false, cond, nat_eq, nat_le, List, [], ◌∷◌, ◌++◌, map, length, filter_map, Option, Some, None, codes}
+use Rattle.bs_outside.specs.SourceTree.{SourceTree}
 use Rattle.ruby_tree.specs.Names.{Bytes}
 use Rattle.ruby_tree.specs.Tree.{Tree, at, statements, no_more}
 use Rattle.ruby_tree.specs.Reading.{Reads}
-use Rattle.reference_parser.specs.HasFault.{HasFault}
+use Rattle.reference_parser.specs.ReadingOf.{Reading, reading_of}
+use Rattle.reference_parser.specs.ReadingOf as reading
 use Rattle.ruby_meaning.specs.NativeName.{Native}
 use Rattle.ruby_meaning.specs.Value.{Value, number, object, MethodRow, native, plain, elements, class_or_module, Object, Objects}
 use Rattle.ruby_meaning.specs.Numbers.{object_class, module_class, exception, standard_error, script_error, runtime_error, name_error, index_error, arguments, system_exit}
 use Rattle.ruby_meaning.specs.Store.{string_cells, array_cells, object_cells, name_cells, named, new_object, new_string, is_a, name_of_class_of, variables_at, Place, rows_of, class_rows_of}
 use Rattle.ruby_meaning.specs.Natives.{native_rows}
-use Rattle.ruby_meaning.specs.Files.{Files, RubyFile, no_ruby, ruby_fault, ruby_tree, DataFile}
-use Rattle.ruby_meaning.specs.World.{FileKind, Step, World, Frame, Outcome, Done, Raise, Break, Next, Return, Retry, Spent, Full, Run, text_of, loaded_of}
+use Rattle.ruby_meaning.specs.Files.{Files}
+use Rattle.ruby_meaning.specs.FilesOf.{ReadsData, DataReader, AreFilesOf, files_of}
+use Rattle.ruby_meaning.specs.World.{Step, World, Frame, Outcome, Done, Raise, Break, Next, Return, Retry, Spent, Full, Run, text_of, loaded_of}
 use Rattle.ruby_meaning.specs.Steps.{then, changing, charge, message_name}
 use Rattle.ruby_meaning.specs.Loads.{file_code, file_frame, run_code, load_ruby, fault_at}
 use Rattle.ruby_meaning.specs.Evaluation.{eval}
@@ -260,29 +262,31 @@ answer_of (Full w) = answer_with [] store_full w
 abbrev pub plain_run : Files → Tree → Program → PlainAnswer
 plain_run files prelude p = answer_of (program_run files prelude p (start_world p))
 
--- The readings.
-
--- What a Ruby file with these contents is read as.
-pub data IsRubyFile : Option Bytes → RubyFile → Type 0 where
-  not_there : IsRubyFile None no_ruby
-  has_fault : {f : Bytes} {line : ℕ} → HasFault f line → IsRubyFile (Some f) (ruby_fault line)
-  has_tree : {f : Bytes} {t : Tree} → Reads f t → IsRubyFile (Some f) (ruby_tree t)
-
--- The files are those of the tree. `reads_data` is what a data file with these contents is read as.
-pub record AreFilesOf (reads_data : FileKind → Option Bytes → DataFile → Type 0) (tree : SourceTree) (files : Files) : Type 0 where
-  pub found : (path : Bytes) → files.is_file path ≡ is_some (bytes_at tree path)
-  pub ruby : (path : Bytes) → IsRubyFile (bytes_at tree path) (files.ruby path)
-  pub data_files : (kind : FileKind) (path : Bytes) → reads_data kind (bytes_at tree path) (files.datum kind path)
+-- The plain run over a source tree.
 
 -- The tree of the prelude: what its text is read as, or a tree without statements where it is read as none.
 pub data IsPrelude : Tree → Type 0 where
   is_read : {t : Tree} → Reads prelude_text t → IsPrelude t
   is_unread : ((t : Tree) → Reads prelude_text t → ⊥) → IsPrelude nowhere
 
--- The answer is that of the plain run of the program over the source tree.
-pub record IsPlainRun (reads_data : FileKind → Option Bytes → DataFile → Type 0) (tree : SourceTree) (p : Program) (answer : PlainAnswer) : Type 0 where
+-- The answer is that of the plain run of the program over the source tree, whose data files are read so.
+pub record IsPlainRun (reads_data : ReadsData) (source : SourceTree) (p : Program) (answer : PlainAnswer) : Type 0 where
   pub files : Files
   pub prelude : Tree
-  pub are_files : AreFilesOf reads_data tree files
+  pub are_files : AreFilesOf reads_data source files
   pub is_prelude : IsPrelude prelude
   pub runs : plain_run files prelude p ≡ answer
+
+-- The same as functions.
+
+abbrev pub tree_or_nowhere : Reading → Tree
+tree_or_nowhere (reading.tree t) = t
+tree_or_nowhere (reading.fault line) = nowhere
+
+-- the tree of the prelude
+abbrev pub prelude_of_text : Tree
+prelude_of_text = tree_or_nowhere (reading_of prelude_text)
+
+-- the plain run of the program over the source tree
+abbrev pub plain_run_of : DataReader → SourceTree → Program → PlainAnswer
+plain_run_of reader source p = plain_run (files_of reader source) prelude_of_text p

@@ -1,11 +1,14 @@
 -- Small programs, and what their plain runs leave. Each program stands as text in a comment, and as the tree of this text.
 use Rattle.std.specs.Prelude.{◌≡◌, ℕ, ◌+◌, pos, negsuc, Bool, true, false, List, [], ◌∷◌, map, Some, None, codes, cond}
+use Rattle.msgpack_codec.specs.declared.value.DataKind.{DataKind}
+use Rattle.msgpack_codec.specs.declared.value.DataKind.TheVariants as data_kind
+use Rattle.msgpack_codec.specs.declared.value.Value.TheVariants as datum
 use Rattle.ruby_lexer.specs.Bytes.{same}
 use Rattle.ruby_tree.specs.Names.{Bytes}
 use Rattle.ruby_tree.specs.Tree.{Tree, and_index, array, assign, assign_all, bare_raise, bare_super, block_param, body, break_with, case_of, class, clause, code_piece, constant_path, ensure, ensure_sequence, false_value, file_name, global, hash, if_else, integer, joined, local, method, module_named, more, next_with, nil_value, no_clause, no_more, no_pair, no_param, no_piece, no_when, operate_attribute, operate_index, optional, or_index, pair, plain_piece, range, required, rescue, rescue_sequence, rest_param, retry, return_with, safe_send, self_value, send, statements, super, symbol, text, to_constant, to_global, to_instance, to_local, true_value, when, while_loop, with, without, yield}
 use Rattle.ruby_meaning.specs.Node.{node}
-use Rattle.ruby_meaning.specs.World.{FileKind, ruby_file, yaml_file, json_file, ask_require, ask_relative, ask_load, Step, asked, loaded, entered, world_of}
-use Rattle.ruby_meaning.specs.Files.{Files, RubyFile, no_ruby, ruby_fault, ruby_tree, number_datum, text_datum, symbol_datum, list_datum, map_datum, no_data, and_datum, no_data_pair, and_pair, DataFile, no_data_file, data_fault, data_value}
+use Rattle.ruby_meaning.specs.World.{ruby_file, ask_require, ask_relative, ask_load, Step, asked, loaded, entered, world_of}
+use Rattle.ruby_meaning.specs.Files.{Files, RubyFile, no_ruby, ruby_fault, ruby_tree, DataFile, no_data_file, data_fault, data_value}
 use Rattle.ruby_meaning.specs.Search.{is_indexed_ask}
 use Rattle.ruby_meaning.specs.PreludeTree.{prelude_tree}
 use Rattle.ruby_meaning.specs.PlainRun.{Program, Ending, exit, turns_spent, PlainAnswer, plain_run, program_run, start_world}
@@ -27,10 +30,9 @@ abbrev pub main : ℕ → Bytes → Program
 main turns input = record { folders = codes "/lib" ∷ []; file = codes "/main.rb"; words = []; turns = turns; input = input }
 
 -- `/main.rb` with this tree; `/c.yml` holds a map from `a` to a list of 1 and `:s`, and each JSON file is refused in its first line
-abbrev pub data_at : FileKind → DataFile
-data_at ruby_file = no_data_file
-data_at yaml_file = data_value (map_datum (and_pair (text_datum (codes "a")) (list_datum (and_datum (number_datum (pos 1)) (and_datum (symbol_datum (codes "s")) no_data))) no_data_pair))
-data_at json_file = data_fault 1
+abbrev pub data_at : DataKind → DataFile
+data_at (data_kind.Yaml) = data_value (datum.Map ((datum.Str (codes "a"), datum.List (datum.Int (pos 1) ∷ datum.Sym (codes "s") ∷ [])) ∷ []))
+data_at (data_kind.Json) = data_fault 1
 
 abbrev pub data_files : Tree → Files
 data_files t = record { is_file = λ path. true; ruby = λ path. ruby_tree t; datum = λ kind path. data_at kind }
@@ -1108,8 +1110,11 @@ self_methods = self_methods-run ≡ shows (codes "can't define singleton\n2\n") 
 -- A data file whose value is a map gives a Hash:
 --     /main.rb
 --         p YAML.load_file("c.yml")
+abbrev pub data_tree : Tree
+data_tree = node 1 1 0 (statements (more (node 1 1 0 (send without (more (node 1 1 2 (send (with (node 1 1 2 (constant_path without false ((codes "YAML") ∷ [])))) (more (node 1 1 17 (text (codes "c.yml"))) no_more) [] without (codes "load_file") false without)) no_more) [] without (codes "p") false without)) no_more))
+
 abbrev pub data_row-run : Shown
-data_row-run = shown (plain_run (data_files (node 1 1 0 (statements (more (node 1 1 0 (send without (more (node 1 1 2 (send (with (node 1 1 2 (constant_path without false ((codes "YAML") ∷ [])))) (more (node 1 1 17 (text (codes "c.yml"))) no_more) [] without (codes "load_file") false without)) no_more) [] without (codes "p") false without)) no_more)))) prelude_tree (main 1000 []))
+data_row-run = shown (plain_run (data_files data_tree) prelude_tree (main 1000 []))
 
 abbrev pub data_row : Type 0
 data_row = data_row-run ≡ shows (123 ∷ 34 ∷ 97 ∷ 34 ∷ codes "=>[1, :s]}\n") [] (exit 0) []

@@ -1,8 +1,6 @@
 -- What holds of the plan of each list of words.
-use Rattle.std.specs.Prelude.{◌≡◌, ℕ, ◌+◌, ◌≤◌, List, [], ◌∷◌, length, Option, Some, ⊤}
+use Rattle.std.specs.Prelude.{◌≡◌, ℕ, ◌+◌, ◌≤◌, List, [], ◌∷◌, length, Some, ⊤}
 use Rattle.ruby_tree.specs.Names.{Bytes}
-use Rattle.ruby_meaning.specs.World.{FileKind}
-use Rattle.ruby_meaning.specs.Files.{DataFile}
 use Rattle.ruby_meaning.specs.Words.{path_named, most_turns, most_workers, most_files, Plan, run_file, precompile, workload, bad}
 
 -- a word names this path
@@ -20,7 +18,3 @@ IsPlanOf n (run_file p) = AreNamed p.load_path × (AreNamed p.stable × (IsNamed
 IsPlanOf n (precompile p) = (1 ≤ p.workers) × ((p.workers ≤ most_workers) × ((1 ≤ length p.folders) × AreNamed p.folders))
 IsPlanOf n (workload k) = (1 ≤ k) × (k ≤ most_files)
 IsPlanOf n (bad k) = (1 ≤ k) × (k ≤ n + 1)
-
--- data files are read by this function
-abbrev pub reads_by : (FileKind → Option Bytes → DataFile) → FileKind → Option Bytes → DataFile → Type 0
-reads_by reader kind contents d = reader kind contents ≡ d

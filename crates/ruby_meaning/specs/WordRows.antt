@@ -1,21 +1,18 @@
 -- Small lists of words with what they ask for, and whole answers.
-use Rattle.std.specs.Prelude.{◌≡◌, ℕ, pos, true, false, cond, List, [], ◌∷◌, replicate, codes, Option, Some}
+use Rattle.std.specs.Prelude.{◌≡◌, pos, true, false, List, [], ◌∷◌, replicate, codes, Some, Ok, Err}
 use Rattle.std.specs.FinMap as finite
 use Rattle.bs_outside.specs.Parts.{parts_of}
 use Rattle.bs_outside.specs.SourceTree.{SourceTree, bytes_at}
 use Rattle.bs_outside.specs.declared.trees.Item.{Item}
 use Rattle.bs_outside.specs.declared.trees.Item.TheVariants as item
-use Rattle.ruby_lexer.specs.Bytes.{same}
+use Rattle.msgpack_codec.specs.declared.value.DataKind.TheVariants as data_kind
+use Rattle.msgpack_codec.specs.declared.value.Value.TheVariants as datum
 use Rattle.ruby_tree.specs.Names.{Bytes}
-use Rattle.ruby_tree.specs.Tree.{Tree, assign, body, class, constant_path, integer, local, method, more, no_more, no_param, required, send, statements, text, to_local, with, without}
-use Rattle.ruby_meaning.specs.Node.{node}
-use Rattle.ruby_meaning.specs.World.{FileKind, ruby_file, ask_require, asked, loaded, entered}
-use Rattle.ruby_meaning.specs.Files.{Files, RubyFile, ruby_fault, ruby_tree, DataFile, nil_datum, data_value}
-use Rattle.ruby_meaning.specs.PreludeTree.{prelude_tree}
-use Rattle.ruby_meaning.specs.Rows.{ruby_files}
-use Rattle.ruby_meaning.specs.PlainRun.{exit, AreFilesOf, IsPrelude}
+use Rattle.ruby_meaning.specs.World.{ruby_file, ask_require, asked, loaded, entered}
+use Rattle.ruby_meaning.specs.FilesOf.{DataReader}
+use Rattle.ruby_meaning.specs.PlainRun.{exit}
 use Rattle.ruby_meaning.specs.Words.{cache_on, cache_off, cache_readonly, RunPlan, Kinds, Plan, run_file, precompile, workload, bad, turns_unsaid, most_turns, plan_of}
-use Rattle.ruby_meaning.specs.AnswerOf.{Answer, ended, usage, factor, workload_text, workload_main, workload_tree, workload_lines, just_writes, IsAnswer}
+use Rattle.ruby_meaning.specs.AnswerOf.{Answer, ended, usage, factor, workload_text, workload_main, workload_tree, workload_lines, just_writes, answer_for}
 
 -- the words of a line, with a blank between two
 abbrev pub words_of : Bytes → List Bytes
@@ -119,9 +116,18 @@ pub record OtherPlans : Type 0 where
 
 -- Whole answers.
 
--- `/main.rb` is `p require("a")`, and `/lib/a.rb` is empty.
-abbrev pub two_files : Files
-two_files = ruby_files ((codes "/main.rb", node 1 1 0 (statements (more (node 1 1 0 (send without (more (node 1 1 2 (send without (more (node 1 1 10 (text (codes "a"))) no_more) [] without (codes "require") false without)) no_more) [] without (codes "p") false without)) no_more))) ∷ (codes "/lib/a.rb", node 0 0 0 (statements no_more)) ∷ [])
+abbrev pub a_file : Bytes → Item
+a_file text = item.File text 1
+
+abbrev pub a_folder : Item
+a_folder = item.Dir 1
+
+-- `/main.rb` asks for a file in the load path, which is empty
+abbrev pub two_entries : List (Bytes × Item)
+two_entries = (codes "/", a_folder) ∷ (codes "/lib", a_folder) ∷ (codes "/lib/a.rb", a_file []) ∷ (codes "/main.rb", a_file (codes "p require(\"a\")\n")) ∷ []
+
+abbrev pub two_files : SourceTree
+two_files = finite.from_sorted two_entries
 
 abbrev pub answer_of_two_files : Answer
 answer_of_two_files = record {
@@ -136,72 +142,29 @@ answer_of_two_files = record {
 abbrev pub answer_to_word_three : Answer
 answer_to_word_three = record { output = []; error_text = codes "bootsnap: word 3\n"; ending = usage 3; features = []; trace = []; has_asked = false }
 
-abbrev pub an_item : Item
-an_item = item.File [] 1
-
--- six files below `/lib`, and others that are no jobs
+-- six files below `/lib`, and others that are no jobs; `/lib/bad.rb` has its fault in line 3
 abbrev pub folder_entries : List (Bytes × Item)
 folder_entries =
-    (codes "/", item.Dir 1) ∷ (codes "/lib", item.Dir 1) ∷ (codes "/lib/.a.rb", an_item) ∷ (codes "/lib/.git", item.Dir 1) ∷ (codes "/lib/.git/a.rb", an_item) ∷
-    (codes "/lib/a.rb", an_item) ∷ (codes "/lib/bad.rb", an_item) ∷ (codes "/lib/c.json", an_item) ∷ (codes "/lib/c.yml", an_item) ∷ (codes "/lib/deep", item.Dir 1) ∷
-    (codes "/lib/deep/d.rb", an_item) ∷ (codes "/lib/e.rb", an_item) ∷ (codes "/lib/readme", an_item) ∷ (codes "/library", item.Dir 1) ∷ (codes "/library/f.rb", an_item) ∷
-    (codes "/main.rb", an_item) ∷ []
+    (codes "/", a_folder) ∷ (codes "/lib", a_folder) ∷ (codes "/lib/.a.rb", a_file []) ∷ (codes "/lib/.git", a_folder) ∷ (codes "/lib/.git/a.rb", a_file []) ∷
+    (codes "/lib/a.rb", a_file (codes "A = 1\n")) ∷ (codes "/lib/bad.rb", a_file (codes "a = 1\n\nb = )\n")) ∷ (codes "/lib/c.json", a_file (codes "{\n")) ∷
+    (codes "/lib/c.yml", a_file (codes "5\n")) ∷ (codes "/lib/deep", a_folder) ∷ (codes "/lib/deep/d.rb", a_file []) ∷ (codes "/lib/e.rb", a_file (codes "puts 2\n")) ∷
+    (codes "/lib/readme", a_file []) ∷ (codes "/library", a_folder) ∷ (codes "/library/f.rb", a_file []) ∷ (codes "/main.rb", a_file []) ∷ []
 
--- `/lib/bad.rb` has its fault in line 3
-abbrev pub ruby_in_folder : Bytes → RubyFile
-ruby_in_folder path = cond (same path (codes "/lib/bad.rb")) (ruby_fault 3) (ruby_tree (node 0 0 0 (statements no_more)))
+abbrev pub folder_tree : SourceTree
+folder_tree = finite.from_sorted folder_entries
 
-abbrev pub folder_files : Files
-folder_files = record { is_file = λ path. true; ruby = ruby_in_folder; datum = λ kind path. data_value nil_datum }
+-- reads these two data files: `/lib/c.yml` as 5, and `/lib/c.json` with a fault in its first line
+abbrev pub folder_reader : DataReader
+folder_reader (data_kind.Yaml) f = Ok (datum.Int (pos 5))
+folder_reader (data_kind.Json) f = Err 1
 
--- The trees of the workload of one file, at any places: `/main.rb` sums up what `/lib/f1.rb` gives.
-abbrev pub calls : Tree → Bytes → Tree → ℕ → Tree
-calls receiver name argument place = node 1 1 place (send (with receiver) (more argument no_more) [] without name false without)
-
-abbrev pub main_of_workload : Tree
-main_of_workload =
-    node 1 1 0
-    (statements
-    (more (node 1 1 1 (assign (node 1 1 2 (integer (pos 0))) (to_local (codes "s"))))
-    (more (node 2 2 3 (send without (more (node 2 2 4 (text (codes "f1"))) no_more) [] without (codes "require") false without))
-    (more (node 3 3 5 (assign (calls (node 3 3 6 (local (codes "s"))) (codes "+") (calls (node 3 3 7 (constant_path without false (codes "F1" ∷ []))) (codes "go") (node 3 3 8 (integer (pos 10))) 9) 10) (to_local (codes "s"))))
-    (more (node 4 4 11 (send without (more (node 4 4 12 (local (codes "s"))) no_more) [] without (codes "puts") false without)) no_more)))))
-
--- `{ |i| t += i * 9 }`
-abbrev pub block_of_workload : Tree
-block_of_workload =
-    node 4 4 8
-    (body (required (codes "i") no_param)
-    (node 4 4 9
-    (statements
-    (more (node 4 4 10 (assign (calls (node 4 4 11 (local (codes "t"))) (codes "+") (calls (node 4 4 12 (local (codes "i"))) (codes "*") (node 4 4 13 (integer (pos 9))) 14) 15) (to_local (codes "t"))))
-    no_more))))
-
-abbrev pub method_of_workload : Tree
-method_of_workload =
-    node 2 2 2
-    (body (required (codes "n") no_param)
-    (node 3 3 3
-    (statements
-    (more (node 3 3 4 (assign (node 3 3 5 (integer (pos 0))) (to_local (codes "t"))))
-    (more (node 4 4 6 (send (with (node 4 4 7 (local (codes "n")))) no_more [] without (codes "times") false (with block_of_workload)))
-    (more (node 5 5 16 (local (codes "t"))) no_more))))))
-
-abbrev pub file_of_workload : Tree
-file_of_workload =
-    node 1 1 0
-    (statements
-    (more (node 1 1 0 (class without (codes "F1") (node 1 1 1 (body no_param (node 2 2 2 (statements (more (node 2 2 2 (method (codes "go") method_of_workload true)) no_more))))))) no_more))
-
-abbrev pub files_of_workload : Files
-files_of_workload = ruby_files ((codes "/main.rb", main_of_workload) ∷ (codes "/lib/f1.rb", file_of_workload) ∷ [])
-
-pub record WholeAnswers (reads_data : FileKind → Option Bytes → DataFile → Type 0) (tree : SourceTree) (input : Bytes) : Type 0 where
-  pub of_a_bad_word : IsAnswer reads_data tree (words_of (codes "run --turns x main.rb")) input answer_to_word_three
-  pub of_a_run : AreFilesOf reads_data tree two_files → IsPrelude prelude_tree → IsAnswer reads_data tree (words_of (codes "run -I lib --turns 1000 main.rb x")) input answer_of_two_files
-  pub of_a_pool : AreFilesOf reads_data tree folder_files → finite.entries tree ≡ folder_entries → IsAnswer reads_data tree (words_of (codes "precompile -j 1 lib")) input (just_writes (codes "sources 6\nskipped 1\n/lib/bad.rb:3\n"))
-  pub of_one_kind : AreFilesOf reads_data tree folder_files → finite.entries tree ≡ folder_entries → IsAnswer reads_data tree (words_of (codes "precompile --no-iseq --no-json lib")) input (just_writes (codes "sources 1\nskipped 0\n"))
-  pub of_a_workload : AreFilesOf reads_data (workload_tree 1) files_of_workload → IsPrelude prelude_tree → IsAnswer reads_data tree (words_of (codes "workload 1")) input (just_writes (codes "files 2\nsum 405\ncold miss 2 hit 0\nwarm miss 0 hit 2\n"))
+-- The answers to these words, with this input, where data is read so.
+pub record WholeAnswers (reader : DataReader) (input : Bytes) : Type 0 where
+  pub of_a_bad_word : (source : SourceTree) → answer_for reader source (words_of (codes "run --turns x main.rb")) input ≡ answer_to_word_three
+  pub of_a_run : answer_for reader two_files (words_of (codes "run -I lib --turns 1000 main.rb x")) input ≡ answer_of_two_files
+  pub of_a_pool : answer_for folder_reader folder_tree (words_of (codes "precompile -j 1 lib")) input ≡ just_writes (codes "sources 6\nskipped 2\n/lib/bad.rb:3\n/lib/c.json:1\n")
+  pub of_one_kind : answer_for folder_reader folder_tree (words_of (codes "precompile --no-iseq --no-json lib")) input ≡ just_writes (codes "sources 1\nskipped 0\n")
+  pub of_a_workload : (source : SourceTree) → answer_for reader source (words_of (codes "workload 1")) input ≡ just_writes (codes "files 2\nsum 405\ncold miss 2 hit 0\nwarm miss 0 hit 2\n")
 
 -- The texts of the workload of one file, and the lines that it writes.
 pub record WorkloadRows : Type 0 where

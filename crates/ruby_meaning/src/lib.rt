@@ -2,6 +2,7 @@
 //! the plain run.
 #![tactic(auto)]
 
+pub mod answers;
 pub mod laws;
 pub mod programs;
 pub mod words;

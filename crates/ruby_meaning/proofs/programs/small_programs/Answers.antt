@@ -1,4 +1,5 @@
-use Rattle.ruby_meaning.proofs.Rows.{sum_row-holds, require_twice-holds, missing_feature-holds, raise_in_feature-holds, cycle_of_features-holds, break_through_ensure-holds, turns_are_spent-holds, no_turn-holds, too_large-holds, floor_of_quotients-holds, divided_by_zero-holds, texts_of_values-holds, exit_runs_ensure-holds, exit_out_of_range-holds, retries-holds, retry_in_a_body-holds, retry_in_an_else-holds, lines_of_input-holds, order_of_parts-holds, block_outlives_method-holds, break_of_ended_call-holds, return_of_ended_method-holds, return_from_block-holds, super_rows-holds, constants_outward-holds, missing_constant-holds, wrong_count-holds, parameters-holds, spread-holds, class_bodies-holds, superclass_mismatch-holds, case_of_values-holds, case_in_a_clause-holds, case_in_an_ensure-holds, raised_again-holds, bare_name-holds, loops-holds, frozen-holds, block_locals-holds, operators-holds, missing_program-holds, load_twice-holds, relative-holds, given_blocks-holds, ensure_replaces-holds, return_in_file_block-holds, singleton_refused-holds, stack_too_deep-holds, block_values-holds, module_methods-holds, global_names-holds, yield_without_block-holds, ensure_and_break-holds, exact_turns-holds, one_turn_less-holds, count_before_turn-holds, turn_before_depth-holds, return_through_block-holds, raise_in_else-holds, rescue_of_no_class-holds, several_classes-holds, own_to_s-holds, place_in_a_block-holds, frozen_features-holds, no_text-holds, super_on_self-holds, lexical_constants-holds, locals_of_modifiers-holds, order_of_a_call-holds, reopened-holds, self_methods-holds, data_row-holds, data_fault_row-holds, trace_row-holds, faulty_program-holds, cells_of_a_text-holds, indexed_asks-holds, other_asks-holds, cells_of_a_local-holds, cells_of_a_hash-holds, cells_of_a_class-holds, cells_of_a_proc-holds, cells_of_an_exception-holds}
+use Rattle.ruby_meaning.proofs.Rows.{sum_row-holds, require_twice-holds, missing_feature-holds, raise_in_feature-holds, cycle_of_features-holds, break_through_ensure-holds, turns_are_spent-holds, no_turn-holds, too_large-holds, floor_of_quotients-holds, divided_by_zero-holds, texts_of_values-holds, exit_runs_ensure-holds, exit_out_of_range-holds, retries-holds, retry_in_a_body-holds, retry_in_an_else-holds, lines_of_input-holds, order_of_parts-holds, block_outlives_method-holds, break_of_ended_call-holds, return_of_ended_method-holds, return_from_block-holds, super_rows-holds, constants_outward-holds, missing_constant-holds, wrong_count-holds, parameters-holds, spread-holds, class_bodies-holds, superclass_mismatch-holds, case_of_values-holds, case_in_a_clause-holds, case_in_an_ensure-holds, raised_again-holds, bare_name-holds, loops-holds, frozen-holds, block_locals-holds, operators-holds, missing_program-holds, load_twice-holds, relative-holds, given_blocks-holds, ensure_replaces-holds, return_in_file_block-holds, singleton_refused-holds, stack_too_deep-holds, block_values-holds, module_methods-holds, global_names-holds, yield_without_block-holds, ensure_and_break-holds, exact_turns-holds, one_turn_less-holds, count_before_turn-holds, turn_before_depth-holds, return_through_block-holds, raise_in_else-holds, rescue_of_no_class-holds, several_classes-holds, own_to_s-holds, place_in_a_block-holds, frozen_features-holds, no_text-holds, super_on_self-holds, lexical_constants-holds, locals_of_modifiers-holds, order_of_a_call-holds, reopened-holds, self_methods-holds, data_fault_row-holds, trace_row-holds, faulty_program-holds, cells_of_a_text-holds, indexed_asks-holds, other_asks-holds, cells_of_a_local-holds, cells_of_a_hash-holds, cells_of_a_class-holds, cells_of_a_proc-holds, cells_of_an_exception-holds}
+use Rattle.ruby_meaning.proofs.DataRow.{data_row-holds}
 use Rattle.ruby_meaning.proofs.programs.small_programs.Goals as goal
 
 pub returns : goal.returns
