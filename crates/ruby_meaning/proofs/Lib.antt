@@ -17,3 +17,4 @@ pub mod MoreTurns
 pub mod Plans
 pub mod WordRows
 pub mod OneAnswer
+pub mod TreesOfAnswers

@@ -9,7 +9,7 @@ use Rattle.ruby_tree.specs.Tree.{Tree}
 use Rattle.reference_parser.specs.ReadingOf.{Reading, tree, fault, reading_of}
 use Rattle.reference_laws.proofs.ReadingOne.{is_read as reading_is, read_only}
 use Rattle.ruby_meaning.specs.Files.{Files, RubyFile, DataFile}
-use Rattle.ruby_meaning.specs.FilesOf.{DataReader, ReadsData, reads_by, ReadsInOneWay, as_data_file, data_file_of, IsDataFile, no_data, has_data, as_ruby_file, ruby_file_of, IsRubyFile, not_there, has_fault, has_tree, AreFilesOf, files_of}
+use Rattle.ruby_meaning.specs.FilesOf.{DataReader, ReadsData, reads_by, as_data_file, data_file_of, IsDataFile, no_data, has_data, as_ruby_file, ruby_file_of, IsRubyFile, not_there, has_fault, has_tree, AreFilesOf, files_of}
 use Rattle.ruby_meaning.specs.Prelude.{prelude_text}
 use Rattle.ruby_meaning.specs.PreludeTree.{prelude_tree}
 use Rattle.ruby_meaning.specs.PlainRun.{Program, PlainAnswer, plain_run, IsPrelude, is_read, is_unread, IsPlainRun, tree_or_nowhere, prelude_of_text, plain_run_of}
@@ -18,6 +18,10 @@ use Rattle.ruby_meaning.specs.AnswerOf.{Answer, answer_of_run, workload_lines, w
 use Rattle.ruby_meaning.proofs.WordRows.{prelude_is_read, prelude_of_text_is}
 
 -- Files.
+
+-- no text is read in two ways
+abbrev ReadsInOneWay : ReadsData → Type 0
+ReadsInOneWay reads_data = (kind : DataKind) (f : Bytes) (r s : Result Value ℕ) → reads_data kind f r → reads_data kind f s → r ≡ s
 
 data_one : (reads : Bytes → Result Value ℕ → Type 0) → ((f : Bytes) (r s : Result Value ℕ) → reads f r → reads f s → r ≡ s)
     → {contents : Option Bytes} {d e : DataFile} → IsDataFile reads contents d → IsDataFile reads contents e → d ≡ e

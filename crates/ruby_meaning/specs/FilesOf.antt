@@ -24,10 +24,6 @@ ReadsData = DataKind → Bytes → Result Value ℕ → Type 0
 abbrev pub reads_by : DataReader → ReadsData
 reads_by reader kind f r = reader kind f ≡ r
 
--- no text is read in two ways
-abbrev pub ReadsInOneWay : ReadsData → Type 0
-ReadsInOneWay reads_data = (kind : DataKind) (f : Bytes) (r s : Result Value ℕ) → reads_data kind f r → reads_data kind f s → r ≡ s
-
 abbrev pub as_data_file : Result Value ℕ → DataFile
 as_data_file (Ok v) = data_value v
 as_data_file (Err line) = data_fault line

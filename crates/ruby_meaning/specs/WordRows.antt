@@ -2,7 +2,7 @@
 use Rattle.std.specs.Prelude.{◌≡◌, pos, true, false, List, [], ◌∷◌, replicate, codes, Some, Ok, Err}
 use Rattle.std.specs.FinMap as finite
 use Rattle.bs_outside.specs.Parts.{parts_of}
-use Rattle.bs_outside.specs.SourceTree.{SourceTree, bytes_at}
+use Rattle.bs_outside.specs.SourceTree.{SourceTree, IsSourceTree, bytes_at}
 use Rattle.bs_outside.specs.declared.trees.Item.{Item}
 use Rattle.bs_outside.specs.declared.trees.Item.TheVariants as item
 use Rattle.msgpack_codec.specs.declared.value.DataKind.TheVariants as data_kind
@@ -165,6 +165,12 @@ pub record WholeAnswers (reader : DataReader) (input : Bytes) : Type 0 where
   pub of_a_pool : answer_for folder_reader folder_tree (words_of (codes "precompile -j 1 lib")) input ≡ just_writes (codes "sources 6\nskipped 2\n/lib/bad.rb:3\n/lib/c.json:1\n")
   pub of_one_kind : answer_for folder_reader folder_tree (words_of (codes "precompile --no-iseq --no-json lib")) input ≡ just_writes (codes "sources 1\nskipped 0\n")
   pub of_a_workload : (source : SourceTree) → answer_for reader source (words_of (codes "workload 1")) input ≡ just_writes (codes "files 2\nsum 405\ncold miss 2 hit 0\nwarm miss 0 hit 2\n")
+
+-- Each of their source trees is one.
+pub record TreesOfAnswers : Type 0 where
+  pub of_two_files : IsSourceTree two_files
+  pub of_a_folder : IsSourceTree folder_tree
+  pub of_a_workload : IsSourceTree (workload_tree 1)
 
 -- The texts of the workload of one file, and the lines that it writes.
 pub record WorkloadRows : Type 0 where

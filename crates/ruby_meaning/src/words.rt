@@ -6,7 +6,7 @@ ghost use Rattle.ruby_meaning.specs.FilesOf.{DataReader, reads_by};
 ghost use Rattle.ruby_meaning.specs.Words.{bad, plan_of};
 ghost use Rattle.ruby_meaning.specs.AnswerOf.{Answer, usage_answer, IsAnswer};
 ghost use Rattle.ruby_meaning.specs.WordLaws.{IsPlanOf};
-ghost use Rattle.ruby_meaning.specs.WordRows.{PlansOfRuns, BadRuns, PlansOfPools, OtherPlans, WholeAnswers, WorkloadRows};
+ghost use Rattle.ruby_meaning.specs.WordRows.{PlansOfRuns, BadRuns, PlansOfPools, OtherPlans, WholeAnswers, TreesOfAnswers, WorkloadRows};
 
 /// Each list of words has a plan: its paths are named by words, its numbers are those that the
 /// command takes, and a bad place is that of a word or the one behind the last. Where a word is
@@ -27,5 +27,6 @@ pub fn small_lists_of_words()
 /// Whole answers over source trees, by what their texts are read as, and the texts of a workload.
 pub fn whole_answers()
     ensures answers { (reader : DataReader) (input : Bytes) → WholeAnswers reader input }
+    ensures trees { TreesOfAnswers }
     ensures workloads { WorkloadRows }
 {}
