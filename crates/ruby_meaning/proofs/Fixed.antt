@@ -1,7 +1,7 @@
 -- The evaluation is a run whose bodies are evaluated: a fixed point.
 use Rattle.std.proofs.Common.{◌≡◌, ℕ, zero, suc, ◌≤◌, refl, sym, arith}
 use Rattle.ruby_tree.specs.Tree.{Tree}
-use Rattle.ruby_meaning.specs.World.{World, Frame, Spent, Run}
+use Rattle.ruby_meaning.specs.World.{World, Frame, Spent}
 use Rattle.ruby_meaning.specs.Files.{Files}
 use Rattle.ruby_meaning.specs.Evaluation.{run, eval, evaluate}
 use Rattle.ruby_meaning.specs.RunLaws.{GainsNone}

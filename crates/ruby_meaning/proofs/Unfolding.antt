@@ -1,5 +1,5 @@
 -- A loop and a rescue unfold at one fuel, which is no less than the turns.
-use Rattle.std.proofs.Common.{◌≡◌, ℕ, zero, suc, ◌≤◌, ◌<◌, Bool, true, false, refl, sym, arith}
+use Rattle.std.proofs.Common.{◌≡◌, ℕ, zero, suc, ◌≤◌, ◌<◌, Bool, true, false, refl, arith}
 use Rattle.ruby_meaning.specs.Value.{Value, nil}
 use Rattle.ruby_meaning.specs.World.{World, Outcome, Done, Raise, Break, Next, Return, Retry, Spent, Full, Run, world_of}
 use Rattle.ruby_meaning.specs.Steps.{then_do, choose, paid_from, pay, after_turn, rescued, retried}
