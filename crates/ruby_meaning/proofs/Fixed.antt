@@ -7,15 +7,15 @@ use Rattle.ruby_meaning.specs.Evaluation.{run, eval, evaluate}
 use Rattle.ruby_meaning.specs.RunLaws.{GainsNone}
 use Rattle.ruby_meaning.proofs.StepsOfCalls.{Bodies}
 use Rattle.ruby_meaning.proofs.StepsOfTrees.{same_run}
-use Rattle.ruby_meaning.proofs.Same.{Same, same_respects, loops_respected, no_bodies, enough, leading}
+use Rattle.ruby_meaning.proofs.Same.{Same, same_respects, loops_respected, no_bodies, enough, leading, ends}
 
 module _ (files : Files) where
   -- with bodies that are evaluated, as every run does
   pub evaluates : (n : ℕ) → Bodies Same same_respects n (evaluate files) (evaluate files)
-  evaluates n j t frame lt = record { by = λ w le. record { same = refl; leads = leading files t frame w } }
+  evaluates n j t frame lt = record { by = λ w le. record { same = refl; leads = leading files t frame w; allowed = ends files t frame w } }
 
   less : (n : ℕ) → Bodies Same same_respects (suc n) (evaluate files) (eval files n)
-  less n j t frame lt = record { by = λ w le. record { same = sym (enough files n t frame w (omega arith)); leads = leading files t frame w } }
+  less n j t frame lt = record { by = λ w le. record { same = sym (enough files n t frame w (omega arith)); leads = leading files t frame w; allowed = ends files t frame w } }
 
   fixed : (n fuel : ℕ) (t : Tree) (frame : Frame) (w : World) → w.turns ≡ n → n ≤ fuel → run files fuel (evaluate files) t frame w ≡ eval files n t frame w
   fixed zero fuel t frame w e le =

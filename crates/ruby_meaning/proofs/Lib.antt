@@ -3,6 +3,7 @@ pub mod NativeTexts
 pub mod Rows
 pub mod Leading
 pub mod Relation
+pub mod Catching
 pub mod Changes
 pub mod StepsOfCalls
 pub mod StepsOfLoads

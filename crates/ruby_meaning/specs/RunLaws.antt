@@ -1,7 +1,8 @@
 -- What a proof about every run may rely on.
-use Rattle.std.specs.Prelude.{ℕ, ◌≤◌, Bool}
+use Rattle.std.specs.Prelude.{◌≡◌, ℕ, ◌≤◌, nat_eq, Bool, true, false, ◌||◌, Option, Some, None, ⊤}
 use Rattle.ruby_meaning.specs.Value.{Value, nil}
-use Rattle.ruby_meaning.specs.World.{World, Done, Run, world_of}
+use Rattle.ruby_meaning.specs.Store.{is_one_of}
+use Rattle.ruby_meaning.specs.World.{Home, in_file, in_method, in_class, World, Frame, Target, to_loop, to_call, Outcome, Done, Raise, Break, Next, Return, Retry, Spent, Full, Run, world_of}
 use Rattle.ruby_meaning.specs.Steps.{then, choose, pay, after_turn, rescued, retried}
 use Rattle.ruby_meaning.specs.Evaluation.{goes_on}
 
@@ -16,3 +17,33 @@ loop_turn until_true test inner again = then test (λ v. choose (goes_on until_t
 -- a body with its clauses and its else part, and what follows a retry
 abbrev pub rescue_turn : Run → (Value → Run) → (Value → Run) → Run → Run
 rescue_turn inner clauses last again w = rescued (inner w) (λ v z. retried (clauses v z) again) last
+
+-- How a run in a frame may end.
+
+-- the home's own number, outside of its blocks
+abbrev pub is_own : Home → Option ℕ → ℕ → Bool
+is_own (in_file m) None n = nat_eq n m
+is_own (in_file m) (Some k) n = false
+is_own (in_method m) None n = nat_eq n m
+is_own (in_method m) (Some k) n = false
+is_own in_class k n = false
+
+-- a return leaves a method or a file that has not ended, or the frame's own
+abbrev pub MayReturn : Frame → ℕ → Type 0
+MayReturn frame n = (is_one_of n frame.running || is_own frame.home frame.in_block n) ≡ true
+
+-- a break leaves a loop around it, or a call that has not ended
+abbrev pub MayBreak : Frame → Target → Type 0
+MayBreak frame to_loop = frame.in_loop ≡ true
+MayBreak frame (to_call k) = is_one_of k frame.calling ≡ true
+
+-- A run is spent only where no turn is left.
+abbrev pub Allowed : Frame → Outcome → Type 0
+Allowed frame (Done v w) = ⊤
+Allowed frame (Raise v w) = ⊤
+Allowed frame (Break t v w) = MayBreak frame t
+Allowed frame (Next v w) = ⊤
+Allowed frame (Return n v w) = MayReturn frame n
+Allowed frame (Retry w) = ⊤
+Allowed frame (Spent w) = w.turns ≡ 0
+Allowed frame (Full w) = ⊤
