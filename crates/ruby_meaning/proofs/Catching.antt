@@ -1,5 +1,5 @@
 -- What leaves an inner frame, as the frame around it gets it.
-use Rattle.std.proofs.Common.{◌≡◌, ℕ, Bool, true, false, refl, sym, ap, ◌∙◌, ◌∷◌, Option, Some, None}
+use Rattle.std.proofs.Common.{◌≡◌, ℕ, Bool, true, false, refl, sym, ◌∷◌, Option, Some}
 use Rattle.std.specs.Prelude.{nat_eq, ◌||◌}
 use Rattle.ruby_tree.specs.Names.{Bytes}
 use Rattle.ruby_tree.specs.Tree.{Tree}
