@@ -129,10 +129,27 @@ method_out frame line code self k r g i =
     return_out frame (method_frame frame line code self k r g i) k
     (λ n s h. further (nat_eq n k) (is_one_of n frame.running) _ s h) (λ m h. h) (λ h. false_true h)
 
-pub file_out : (e : Frame) (code : Code) (k : ℕ) (outside : Option (Bytes × ℕ)) → Catches e (file_frame code k outside e.running e.calling) (returned k)
-file_out e code k outside =
-    return_out e (file_frame code k outside e.running e.calling) k
-    (λ n s h. further (nat_eq n k) (is_one_of n e.running) _ s h) (λ m h. h) (λ h. false_true h)
+-- what is running and being called around a frame may be left out of the frame around a file
+pub record Within (e frame : Frame) : Type 0 where
+  pub returns : (n : ℕ) → is_one_of n frame.running ≡ true → MayReturn e n
+  pub calls : (k : ℕ) → is_one_of k frame.calling ≡ true → is_one_of k e.calling ≡ true
+
+or_true : (a b : Bool) → a ≡ true → (a || b) ≡ true
+or_true true b h = refl
+or_true false b h = false_true h
+
+pub within_self : (frame : Frame) → Within frame frame
+within_self frame = record { returns = λ n h. or_true (is_one_of n frame.running) _ h; calls = λ k h. h }
+
+only : (a b : Bool) → a ≡ false → ((a || b) || a) ≡ true → b ≡ true
+only a true s h = refl
+only true false s h = false_true (sym s)
+only false false s h = false_true h
+
+pub file_out : (e frame : Frame) → Within e frame → (code : Code) (k : ℕ) (outside : Option (Bytes × ℕ)) → Catches e (file_frame code k outside frame.running frame.calling) (returned k)
+file_out e frame in_it code k outside =
+    return_out e (file_frame code k outside frame.running frame.calling) k
+    (λ n s h. in_it.returns n (only (nat_eq n k) (is_one_of n frame.running) s h)) in_it.calls (λ h. false_true h)
 
 -- A next, which is the value of its block.
 

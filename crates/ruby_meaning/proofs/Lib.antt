@@ -14,6 +14,7 @@ pub mod Fixed
 pub mod Unfolding
 pub mod Longer
 pub mod Start
+pub mod Ends
 pub mod Constructs
 pub mod MoreTurns
 pub mod Plans

@@ -12,7 +12,7 @@ use Rattle.ruby_meaning.specs.Loads.{file_code, file_frame, in_file_frame, run_c
 use Rattle.ruby_meaning.specs.Evaluation.{eval}
 use Rattle.ruby_meaning.specs.PlainRun.{Program, start_world, start_cells, top_frame, with_turns, program_run}
 use Rattle.ruby_meaning.specs.Laws.{ParentsBelow, EnvironmentsBelow, IsSound}
-use Rattle.ruby_meaning.proofs.Catching.{file_out}
+use Rattle.ruby_meaning.proofs.Catching.{within_self, file_out}
 use Rattle.ruby_meaning.proofs.StepsOfLoads.{same_load_ruby}
 use Rattle.ruby_meaning.proofs.Same.{SameOut, Same, same_respects, same_eval}
 
@@ -63,7 +63,7 @@ module _ (files : Files) (p : Program) where
   inside code w e c t le =
       let z : World = with_environment None (all_nil code.locals) w in
       let x : SameOut top_frame z (in_file_frame files (eval files 0) top_frame 0 code 0 z) (in_file_frame files (eval files 0) top_frame 0 code 0 z) =
-      (same_respects.same_caught 0 top_frame (file_frame code 0 (stand top_frame 0) top_frame.running top_frame.calling) (returned 0) _ _ refl (file_out top_frame code 0 (stand top_frame 0)) (same_eval files 0 0 0 code.body (file_frame code 0 (stand top_frame 0) top_frame.running top_frame.calling) (omega arith) (omega arith))).by z t in
+      (same_respects.same_caught 0 top_frame (file_frame code 0 (stand top_frame 0) top_frame.running top_frame.calling) (returned 0) _ _ refl (file_out top_frame top_frame (within_self top_frame) code 0 (stand top_frame 0)) (same_eval files 0 0 0 code.body (file_frame code 0 (stand top_frame 0) top_frame.running top_frame.calling) (omega arith) (omega arith))).by z t in
       let one : 0 < length z.environments = subst (λ all. 0 < length (all ++ record { parent = None; locals = all_nil code.locals } ∷ [])) (sym e) (omega arith) in
       let sound : IsSound z = record {
         parents = subst (λ all. ParentsBelow 0 (all ++ record { parent = None; locals = all_nil code.locals } ∷ [])) (sym e) (tt, tt);

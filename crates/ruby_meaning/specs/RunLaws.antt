@@ -47,3 +47,14 @@ Allowed frame (Return n v w) = MayReturn frame n
 Allowed frame (Retry w) = ⊤
 Allowed frame (Spent w) = w.turns ≡ 0
 Allowed frame (Full w) = ⊤
+
+-- Where nothing is run around it, a run ends with no return and no break.
+abbrev pub EndsOutside : Outcome → Type 0
+EndsOutside (Done v w) = ⊤
+EndsOutside (Raise v w) = ⊤
+EndsOutside (Break t v w) = ⊥
+EndsOutside (Next v w) = ⊤
+EndsOutside (Return n v w) = ⊥
+EndsOutside (Retry w) = ⊤
+EndsOutside (Spent w) = w.turns ≡ 0
+EndsOutside (Full w) = ⊤

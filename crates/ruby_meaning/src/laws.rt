@@ -1,15 +1,15 @@
 //! What holds of every run, over the definitions alone.
-ghost use Rattle.std.specs.Prelude.{◌≡◌, ℕ, ◌+◌, ◌≤◌, ◌<◌, Bool, length};
+ghost use Rattle.std.specs.Prelude.{◌≡◌, ℕ, ◌+◌, ◌≤◌, ◌<◌, Bool, [], length};
 ghost use Rattle.ruby_tree.specs.Tree.{Tree};
 ghost use Rattle.ruby_meaning.specs.Value.{Value};
 ghost use Rattle.ruby_meaning.specs.Store.{cell_limit};
-ghost use Rattle.ruby_meaning.specs.World.{World, Frame, Run, world_of};
+ghost use Rattle.ruby_meaning.specs.World.{World, Frame, Spent, Run, world_of};
 ghost use Rattle.ruby_meaning.specs.Files.{Files};
 ghost use Rattle.ruby_meaning.specs.Evaluation.{run, eval, evaluate, loop, rescuing};
 ghost use Rattle.ruby_meaning.specs.Constructs.{ReadsAsTable, body_of};
 ghost use Rattle.ruby_meaning.specs.PlainRun.{Program, program_run, start_world, plain_run};
-ghost use Rattle.ruby_meaning.specs.RunLaws.{GainsNone, loop_turn, rescue_turn};
-ghost use Rattle.ruby_meaning.specs.Laws.{Grows, IsSound, given, given_out, IsOver, given_program, HasEnded};
+ghost use Rattle.ruby_meaning.specs.RunLaws.{GainsNone, loop_turn, rescue_turn, Allowed, EndsOutside};
+ghost use Rattle.ruby_meaning.specs.Laws.{Grows, IsSound, EnvironmentsStay, ClosuresStay, given, given_out, IsOver, given_program, HasEnded};
 
 /// What each node does, as the table of nodes reads it, at any fuel and for any meaning of bodies;
 /// and an evaluation is such a run, in which bodies have one fuel less.
@@ -64,4 +64,25 @@ pub fn evaluation_is_fixed()
 pub fn loops_unfold()
     ensures loops { (fuel : ℕ) (until_true : Bool) (test inner : Run) → GainsNone fuel test → GainsNone fuel inner → (w : World) → w.turns ≤ fuel → loop fuel until_true test inner w ≡ loop_turn until_true test inner (loop fuel until_true test inner) w }
     ensures rescues { (fuel : ℕ) (inner : Run) (clauses last : Value → Run) → GainsNone fuel inner → ((v : Value) → GainsNone fuel (clauses v)) → (w : World) → w.turns ≤ fuel → rescuing fuel inner clauses last w ≡ rescue_turn inner clauses last (rescuing fuel inner clauses last) w }
+{}
+
+/// Whatever its outcome, a run leaves the depth and the files that are loading as they were; the
+/// closures that stand stay, and the environments that stand keep their parents and the names of
+/// their locals. A program ends at depth 0, and no file is loading.
+pub fn what_stands_stays()
+    ensures depth { (files : Files) (t : Tree) (frame : Frame) (w : World) → (world_of (evaluate files t frame w)).depth ≡ w.depth }
+    ensures loading { (files : Files) (t : Tree) (frame : Frame) (w : World) → (world_of (evaluate files t frame w)).loading ≡ w.loading }
+    ensures closures { (files : Files) (t : Tree) (frame : Frame) (w : World) → ClosuresStay w.closures (world_of (evaluate files t frame w)).closures }
+    ensures environments { (files : Files) (t : Tree) (frame : Frame) (w : World) → EnvironmentsStay w.environments (world_of (evaluate files t frame w)).environments }
+    ensures program_depth { (files : Files) (prelude : Tree) (p : Program) → (world_of (program_run files prelude p (start_world p))).depth ≡ 0 }
+    ensures program_loading { (files : Files) (prelude : Tree) (p : Program) → (world_of (program_run files prelude p (start_world p))).loading ≡ [] }
+{}
+
+/// A run ends as its frame lets it: a return leaves a method or file that is running, a break a
+/// loop around it or a call that is being evaluated, and it is spent only with no turn left. A
+/// program ends with no return and no break.
+pub fn runs_end_as_they_may()
+    ensures allowed { (files : Files) (t : Tree) (frame : Frame) (w : World) → Allowed frame (evaluate files t frame w) }
+    ensures spent { (files : Files) (t : Tree) (frame : Frame) (w z : World) → evaluate files t frame w ≡ Spent z → z.turns ≡ 0 }
+    ensures program { (files : Files) (prelude : Tree) (p : Program) → EndsOutside (program_run files prelude p (start_world p)) }
 {}
