@@ -12,6 +12,7 @@ pub mod StepsOfTrees
 pub mod Same
 pub mod Fixed
 pub mod Unfolding
+pub mod EvaluatedLoops
 pub mod Longer
 pub mod Start
 pub mod Ends

@@ -51,7 +51,7 @@ module _ (most : ℕ) (u : Bool) (test inner : Run) (none_of_test : GainsNone mo
     tested_same (Spent w) le = refl
     tested_same (Full w) le = refl
 
-    turn_same : (w : World) → w.turns ≤ n → loop_turn u test inner again w ≡ loop_turn u test inner again' w
+    pub turn_same : (w : World) → w.turns ≤ n → loop_turn u test inner again w ≡ loop_turn u test inner again' w
     turn_same w le = tested_same (test w) (le_on (world_of (test w)).turns w.turns n (none_of_test w (le_on w.turns n most le few)) le)
 
   -- Where no turn is left, what would follow one does not count.
@@ -108,7 +108,7 @@ module _ (most : ℕ) (inner : Run) (clauses last : Value → Run) (none_of_inne
     rescued_same (Spent w) le = refl
     rescued_same (Full w) le = refl
 
-    rescue_same : (w : World) → w.turns ≤ n → rescue_turn inner clauses last again w ≡ rescue_turn inner clauses last again' w
+    pub rescue_same : (w : World) → w.turns ≤ n → rescue_turn inner clauses last again w ≡ rescue_turn inner clauses last again' w
     rescue_same w le = rescued_same (inner w) (le_on (world_of (inner w)).turns w.turns n (none_of_inner w (le_on w.turns n most le few)) le)
 
   rescue_more : (f : ℕ) (w : World) → w.turns ≤ f → f ≤ most → rescuing f inner clauses last w ≡ rescuing (suc f) inner clauses last w

@@ -1,10 +1,12 @@
 -- What a proof about every run may rely on.
 use Rattle.std.specs.Prelude.{◌≡◌, ℕ, ◌≤◌, nat_eq, Bool, true, false, ◌||◌, Option, Some, None, ⊤}
+use Rattle.ruby_tree.specs.Tree.{Other, without, with}
 use Rattle.ruby_meaning.specs.Value.{Value, nil}
 use Rattle.ruby_meaning.specs.Store.{is_one_of}
 use Rattle.ruby_meaning.specs.World.{Home, in_file, in_method, in_class, World, Frame, Target, to_loop, to_call, Outcome, Done, Raise, Break, Next, Return, Retry, Spent, Full, Run, world_of}
 use Rattle.ruby_meaning.specs.Steps.{then, choose, pay, after_turn, rescued, retried}
-use Rattle.ruby_meaning.specs.Evaluation.{goes_on}
+use Rattle.ruby_meaning.specs.Files.{Files}
+use Rattle.ruby_meaning.specs.Evaluation.{goes_on, evaluate}
 
 -- from a world of at most n turns, no outcome of the run has more turns left than there were
 abbrev pub GainsNone : ℕ → Run → Type 0
@@ -17,6 +19,11 @@ loop_turn until_true test inner again = then test (λ v. choose (goes_on until_t
 -- a body with its clauses and its else part, and what follows a retry
 abbrev pub rescue_turn : Run → (Value → Run) → (Value → Run) → Run → Run
 rescue_turn inner clauses last again w = rescued (inner w) (λ v z. retried (clauses v z) again) last
+
+-- an else part that is evaluated, or the value where there is none
+abbrev pub last_of : Files → Other → Frame → Value → Run
+last_of files without frame v = Done v
+last_of files (with t) frame v = evaluate files t frame
 
 -- How a run in a frame may end.
 

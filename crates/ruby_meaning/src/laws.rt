@@ -1,14 +1,15 @@
 //! What holds of every run, over the definitions alone.
-ghost use Rattle.std.specs.Prelude.{◌≡◌, ℕ, ◌+◌, ◌≤◌, ◌<◌, Bool, [], length};
-ghost use Rattle.ruby_tree.specs.Tree.{Tree};
+ghost use Rattle.std.specs.Prelude.{◌≡◌, ℕ, ◌+◌, ◌≤◌, ◌<◌, Bool, false, [], length};
+ghost use Rattle.ruby_tree.specs.Tree.{SourcePosition, Tree, at, while_loop, rescue, Other};
 ghost use Rattle.ruby_meaning.specs.Value.{Value};
 ghost use Rattle.ruby_meaning.specs.Store.{cell_limit};
 ghost use Rattle.ruby_meaning.specs.World.{World, Frame, Spent, Run, world_of};
 ghost use Rattle.ruby_meaning.specs.Files.{Files};
+ghost use Rattle.ruby_meaning.specs.Parts.{in_loop_of, handling};
 ghost use Rattle.ruby_meaning.specs.Evaluation.{run, eval, evaluate, loop, rescuing};
 ghost use Rattle.ruby_meaning.specs.Constructs.{ReadsAsTable, body_of};
 ghost use Rattle.ruby_meaning.specs.PlainRun.{Program, program_run, start_world, plain_run};
-ghost use Rattle.ruby_meaning.specs.RunLaws.{GainsNone, loop_turn, rescue_turn, Allowed, EndsOutside};
+ghost use Rattle.ruby_meaning.specs.RunLaws.{GainsNone, loop_turn, rescue_turn, last_of, Allowed, EndsOutside};
 ghost use Rattle.ruby_meaning.specs.Laws.{Grows, IsSound, EnvironmentsStay, ClosuresStay, given, given_out, IsOver, given_program, HasEnded};
 
 /// What each node does, as the table of nodes reads it, at any fuel and for any meaning of bodies;
@@ -60,10 +61,13 @@ pub fn evaluation_is_fixed()
 {}
 
 /// With no less fuel than turns, a loop is one turn of it and then the loop again at the same
-/// fuel, and a rescue whose clause ends in a retry is the rescue again.
+/// fuel, and a rescue whose clause ends in a retry is the rescue again. Where they are evaluated,
+/// what comes again is the same node, and no fuel is spoken of.
 pub fn loops_unfold()
     ensures loops { (fuel : ℕ) (until_true : Bool) (test inner : Run) → GainsNone fuel test → GainsNone fuel inner → (w : World) → w.turns ≤ fuel → loop fuel until_true test inner w ≡ loop_turn until_true test inner (loop fuel until_true test inner) w }
     ensures rescues { (fuel : ℕ) (inner : Run) (clauses last : Value → Run) → GainsNone fuel inner → ((v : Value) → GainsNone fuel (clauses v)) → (w : World) → w.turns ≤ fuel → rescuing fuel inner clauses last w ≡ rescue_turn inner clauses last (rescuing fuel inner clauses last) w }
+    ensures loop_nodes { (files : Files) (s : SourcePosition) (frame : Frame) (a c : Tree) (u : Bool) (w : World) → evaluate files (at s (while_loop a c u false)) frame w ≡ loop_turn u (evaluate files c frame) (evaluate files a (in_loop_of frame)) (evaluate files (at s (while_loop a c u false)) frame) w }
+    ensures rescue_nodes { (files : Files) (s : SourcePosition) (frame : Frame) (a : Tree) (o : Other) (c : Tree) (w : World) → evaluate files (at s (rescue a o c)) frame w ≡ rescue_turn (evaluate files a frame) (λ v. evaluate files c (handling frame v)) (last_of files o frame) (evaluate files (at s (rescue a o c)) frame) w }
 {}
 
 /// Whatever its outcome, a run leaves the depth and the files that are loading as they were; the
