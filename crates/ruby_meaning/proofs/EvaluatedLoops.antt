@@ -1,16 +1,15 @@
 -- A loop and a rescue that are evaluated, unfolded: what comes again is the same node.
-use Rattle.std.proofs.Common.{◌≡◌, ℕ, ◌≤◌, ◌<◌, Bool, true, false, refl, sym, ◌∙◌, arith}
+use Rattle.std.proofs.Common.{◌≡◌, ℕ, ◌≤◌, ◌<◌, Bool, false, refl, sym, ◌∙◌, arith}
 use Rattle.ruby_tree.specs.Tree.{SourcePosition, Tree, at, while_loop, rescue, Other, without, with}
 use Rattle.ruby_meaning.specs.Value.{Value}
 use Rattle.ruby_meaning.specs.World.{World, Frame, Done, Run}
-use Rattle.ruby_meaning.specs.Steps.{after_turn}
 use Rattle.ruby_meaning.specs.Files.{Files}
 use Rattle.ruby_meaning.specs.Parts.{in_loop_of, handling}
 use Rattle.ruby_meaning.specs.Evaluation.{loop, rescuing, run, run_last, evaluate}
 use Rattle.ruby_meaning.specs.RunLaws.{GainsNone, loop_turn, rescue_turn, last_of}
 use Rattle.ruby_meaning.proofs.Catching.{handled_out}
 use Rattle.ruby_meaning.proofs.StepsOfTrees.{same_run}
-use Rattle.ruby_meaning.proofs.Same.{SameOut, Same, same_respects, loops_respected, same_turn, leading}
+use Rattle.ruby_meaning.proofs.Same.{SameOut, Same, same_respects, loops_respected, leading}
 use Rattle.ruby_meaning.proofs.Fixed.{evaluates, evaluation_is_fixed}
 use Rattle.ruby_meaning.proofs.Unfolding.{turn_same, loop_unfolds, rescue_same, rescue_unfolds}
 
