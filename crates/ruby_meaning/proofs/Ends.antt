@@ -10,12 +10,10 @@ use Rattle.ruby_meaning.specs.Loads.{file_code, run_code, load_ruby}
 use Rattle.ruby_meaning.specs.Evaluation.{eval, evaluate}
 use Rattle.ruby_meaning.specs.PlainRun.{Program, start_world, start_cells, top_frame, with_turns, program_run}
 use Rattle.ruby_meaning.specs.RunLaws.{MayBreak, Allowed, EndsOutside}
+use Rattle.ruby_meaning.proofs.Truths.{false_true}
 use Rattle.ruby_meaning.proofs.Catching.{Within}
 use Rattle.ruby_meaning.proofs.StepsOfLoads.{same_code, same_load_in}
 use Rattle.ruby_meaning.proofs.Same.{SameOut, Same, same_respects, same_eval, ends}
-
-false_true : {X : Type 0} → false ≡ true → X
-false_true h = cc
 
 spent_at : (frame : Frame) (o : Outcome) (z : World) → Allowed frame o → o ≡ Spent z → z.turns ≡ 0
 spent_at frame o z a s = subst (Allowed frame) s a

@@ -1,6 +1,7 @@
 pub mod NativeRows
 pub mod NativeTexts
 pub mod Rows
+pub mod Truths
 pub mod Leading
 pub mod Relation
 pub mod Catching

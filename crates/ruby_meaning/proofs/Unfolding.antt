@@ -5,12 +5,10 @@ use Rattle.ruby_meaning.specs.World.{World, Outcome, Done, Raise, Break, Next, R
 use Rattle.ruby_meaning.specs.Steps.{then_do, choose, paid_from, pay, after_turn, rescued, retried}
 use Rattle.ruby_meaning.specs.Evaluation.{goes_on, loop, rescuing}
 use Rattle.ruby_meaning.specs.RunLaws.{GainsNone, loop_turn, rescue_turn}
+use Rattle.ruby_meaning.proofs.Leading.{le_on}
 
 lt_on : (a b c : ℕ) → a ≤ b → b < c → a < c
 lt_on a b c l m = omega arith
-
-le_on : (a b c : ℕ) → a ≤ b → b ≤ c → a ≤ c
-le_on a b c l m = omega arith
 
 -- what is paid for where no turn is left
 unpaid : (k : ℕ) (w : World) (go go' : Run) → k ≤ 0 → paid_from k w go ≡ paid_from k w go'
