@@ -8,24 +8,14 @@ use Rattle.ruby_meaning.specs.Parts.{in_loop_of, handling}
 use Rattle.ruby_meaning.specs.Evaluation.{loop, rescuing, run, run_last, evaluate}
 use Rattle.ruby_meaning.specs.RunLaws.{GainsNone, loop_turn, rescue_turn, last_of}
 use Rattle.ruby_meaning.proofs.Catching.{handled_out}
-use Rattle.ruby_meaning.proofs.StepsOfTrees.{same_run}
-use Rattle.ruby_meaning.proofs.Same.{SameOut, Same, same_respects, loops_respected, leading}
-use Rattle.ruby_meaning.proofs.Fixed.{evaluates, evaluation_is_fixed}
+use Rattle.ruby_meaning.proofs.Same.{Same, same_respects, loops_respected, leading}
+use Rattle.ruby_meaning.proofs.Fixed.{evaluation_is_fixed, evaluated}
 use Rattle.ruby_meaning.proofs.Unfolding.{turn_same, loop_unfolds, rescue_same, rescue_unfolds}
 
 below : (a b : ℕ) → a < b → a ≤ b
 below a b lt = omega arith
 
 module _ (files : Files) where
-  -- a step of `run` whose bodies are evaluated is the evaluation
-  evaluated : (n : ℕ) (t : Tree) (frame : Frame) → Same n frame (run files n (evaluate files) t frame) (evaluate files t frame)
-  evaluated n t frame = record {
-    by = λ w le.
-        let x : SameOut frame w (run files n (evaluate files) t frame w) (run files n (evaluate files) t frame w) =
-        (same_run Same same_respects files n n n (evaluate files) (evaluate files) (loops_respected n n n (omega arith) (omega arith)) (evaluates files n) t frame).by w le in
-        record { same = evaluation_is_fixed files n t frame w le; leads = x.leads; allowed = x.allowed };
-  }
-
   gains_none : (n : ℕ) (t : Tree) (frame : Frame) → GainsNone n (evaluate files t frame)
   gains_none n t frame w le = (leading files t frame w).turns
 
@@ -44,7 +34,7 @@ module _ (files : Files) where
       node_is_loop : (n : ℕ) (w : World) → w.turns ≤ n → node w ≡ loop n u test inner w
       node_is_loop n w le =
           sym (evaluation_is_fixed files n (at s (while_loop a c u false)) frame w le) ∙
-          (((loops_respected n n n (omega arith) (omega arith)).same_loop_from frame false u _ _ _ _ (evaluated n c frame) (evaluated n a (in_loop_of frame))).by w le).same
+          (((loops_respected n n n (omega arith) (omega arith)).same_loop_from frame false u _ _ _ _ (evaluated files n c frame) (evaluated files n a (in_loop_of frame))).by w le).same
 
       pub loop_again : (w : World) → node w ≡ loop_turn u test inner node w
       loop_again w =
@@ -66,15 +56,15 @@ module _ (files : Files) where
 
       last_same : (n : ℕ) (p : Other) (v : Value) → Same n frame (run_last files n (evaluate files) p frame v) (last_of files p frame v)
       last_same n without v = same_respects.same_stay n frame (Done v) (record { world = λ w. refl; turns = λ k w. refl; allowed = λ w. tt })
-      last_same n (with t) v = evaluated n t frame
+      last_same n (with t) v = evaluated files n t frame
 
       clause_same : (n : ℕ) (v : Value) → Same n frame (run files n (evaluate files) c (handling frame v)) (clauses v)
-      clause_same n v = same_respects.same_caught n frame (handling frame v) (λ x. x) (run files n (evaluate files) c (handling frame v)) (clauses v) refl (handled_out frame v) (evaluated n c (handling frame v))
+      clause_same n v = same_respects.same_caught n frame (handling frame v) (λ x. x) (run files n (evaluate files) c (handling frame v)) (clauses v) refl (handled_out frame v) (evaluated files n c (handling frame v))
 
       whole_is_rescue : (n : ℕ) (w : World) → w.turns ≤ n → whole w ≡ rescuing n begun clauses (last_of files o frame) w
       whole_is_rescue n w le =
           sym (evaluation_is_fixed files n (at s (rescue a o c)) frame w le) ∙
-          (((loops_respected n n n (omega arith) (omega arith)).same_rescuing frame _ _ _ _ _ _ (evaluated n a frame) (clause_same n) (last_same n o)).by w le).same
+          (((loops_respected n n n (omega arith) (omega arith)).same_rescuing frame _ _ _ _ _ _ (evaluated files n a frame) (clause_same n) (last_same n o)).by w le).same
 
       pub rescue_again : (w : World) → whole w ≡ rescue_turn begun clauses (last_of files o frame) whole w
       rescue_again w =

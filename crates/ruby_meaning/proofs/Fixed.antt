@@ -7,7 +7,7 @@ use Rattle.ruby_meaning.specs.Evaluation.{run, eval, evaluate}
 use Rattle.ruby_meaning.specs.RunLaws.{GainsNone}
 use Rattle.ruby_meaning.proofs.StepsOfCalls.{Bodies}
 use Rattle.ruby_meaning.proofs.StepsOfTrees.{same_run}
-use Rattle.ruby_meaning.proofs.Same.{Same, same_respects, loops_respected, no_bodies, enough, leading, ends}
+use Rattle.ruby_meaning.proofs.Same.{SameOut, Same, same_respects, loops_respected, no_bodies, enough, leading, ends}
 
 module _ (files : Files) where
   -- with bodies that are evaluated, as every run does
@@ -26,7 +26,14 @@ module _ (files : Files) where
   pub evaluation_is_fixed : (fuel : ℕ) (t : Tree) (frame : Frame) (w : World) → w.turns ≤ fuel → run files fuel (evaluate files) t frame w ≡ evaluate files t frame w
   evaluation_is_fixed fuel t frame w le = fixed w.turns fuel t frame w refl le
 
-  -- so a run whose bodies are evaluated gains no turns
+  -- so a run whose bodies are evaluated does the same, and keeps and ends as every run does
+  pub evaluated : (fuel : ℕ) (t : Tree) (frame : Frame) → Same fuel frame (run files fuel (evaluate files) t frame) (evaluate files t frame)
+  evaluated fuel t frame = record {
+    by = λ w le.
+        let x : SameOut frame w (run files fuel (evaluate files) t frame w) (run files fuel (evaluate files) t frame w) =
+        (same_run Same same_respects files fuel fuel fuel (evaluate files) (evaluate files) (loops_respected fuel fuel fuel (omega arith) (omega arith)) (evaluates fuel) t frame).by w le in
+        record { same = evaluation_is_fixed fuel t frame w le; leads = x.leads; allowed = x.allowed };
+  }
+
   pub gains_none : (fuel : ℕ) (t : Tree) (frame : Frame) → GainsNone fuel (run files fuel (evaluate files) t frame)
-  gains_none fuel t frame w le =
-      ((same_run Same same_respects files fuel fuel fuel (evaluate files) (evaluate files) (loops_respected fuel fuel fuel (omega arith) (omega arith)) (evaluates fuel) t frame).by w le).leads.turns
+  gains_none fuel t frame w le = ((evaluated fuel t frame).by w le).leads.turns
