@@ -48,9 +48,9 @@ module _ (files : Files) (k : ℕ) where
     abbrev load : ℕ → Run
     load n = load_ruby files (eval files n) top_frame 0 p.file
 
-    load_longer : Longer k p.turns 0 (load p.turns) (load (p.turns + k))
+    load_longer : Longer k p.turns top_frame (load p.turns) (load (p.turns + k))
     load_longer =
-        same_load_ruby (Longer k) (longer_respects k) files (eval files p.turns) (eval files (p.turns + k)) p.turns 0 top_frame 0 p.file
+        same_load_ruby (Longer k) (longer_respects k) files (eval files p.turns) (eval files (p.turns + k)) p.turns top_frame 0 p.file
         (λ j t frame lt. longer_eval k files j p.turns (p.turns + k) t frame (omega arith) (omega arith))
 
     after_prelude : (o : Outcome) → HasEnded (answer_of (then_do o (λ v. changing (with_turns p.turns) (load p.turns)))).ending →

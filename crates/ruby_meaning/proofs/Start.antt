@@ -5,13 +5,14 @@ use Rattle.ruby_tree.specs.Tree.{Tree}
 use Rattle.ruby_meaning.specs.Value.{Value, Code}
 use Rattle.ruby_meaning.specs.Store.{cell_limit, environment_cells}
 use Rattle.ruby_meaning.specs.World.{World, Outcome, Done, Raise, Break, Next, Return, Retry, Spent, Full, Run, world_of}
-use Rattle.ruby_meaning.specs.Steps.{then_do, then, reading, charged, changing, stand}
+use Rattle.ruby_meaning.specs.Steps.{then_do, then, reading, charged, changing, stand, returned}
 use Rattle.ruby_meaning.specs.Calls.{all_nil, with_environment, next_environment}
 use Rattle.ruby_meaning.specs.Files.{Files}
 use Rattle.ruby_meaning.specs.Loads.{file_code, file_frame, in_file_frame, run_code, load_ruby}
 use Rattle.ruby_meaning.specs.Evaluation.{eval}
 use Rattle.ruby_meaning.specs.PlainRun.{Program, start_world, start_cells, top_frame, with_turns, program_run}
 use Rattle.ruby_meaning.specs.Laws.{ParentsBelow, EnvironmentsBelow, IsSound}
+use Rattle.ruby_meaning.proofs.Catching.{within_self, file_out}
 use Rattle.ruby_meaning.proofs.StepsOfLoads.{same_load_ruby}
 use Rattle.ruby_meaning.proofs.Same.{SameOut, Same, same_respects, same_eval}
 
@@ -39,7 +40,7 @@ module _ (files : Files) (p : Program) where
   loaded_good : (w : World) → Good w → 0 < length w.environments → Good (world_of (changing (with_turns p.turns) load w))
   loaded_good w g lt =
       let z : World = with_turns p.turns w in
-      let x : SameOut 0 z (load z) (load z) = (same_load_ruby Same same_respects files (eval files p.turns) (eval files p.turns) p.turns 0 top_frame 0 p.file (λ j t frame l. same_eval files j p.turns p.turns t frame (omega arith) (omega arith))).by z (omega arith) in
+      let x : SameOut top_frame z (load z) (load z) = (same_load_ruby Same same_respects files (eval files p.turns) (eval files p.turns) p.turns top_frame 0 p.file (λ j t frame l. same_eval files j p.turns p.turns t frame (omega arith) (omega arith))).by z (omega arith) in
       record {
         sound = x.leads.sound lt (record { parents = g.sound.parents; closures = g.sound.closures });
         within = x.leads.within g.within;
@@ -61,8 +62,8 @@ module _ (files : Files) (p : Program) where
       GoodOut (in_file_frame files (eval files 0) top_frame 0 code 0 (with_environment None (all_nil code.locals) w))
   inside code w e c t le =
       let z : World = with_environment None (all_nil code.locals) w in
-      let x : SameOut 0 z (in_file_frame files (eval files 0) top_frame 0 code 0 z) (in_file_frame files (eval files 0) top_frame 0 code 0 z) =
-      (same_respects.same_returned 0 0 0 _ _ (same_eval files 0 0 0 code.body (file_frame code 0 (stand top_frame 0) top_frame.running top_frame.calling) (omega arith) (omega arith))).by z t in
+      let x : SameOut top_frame z (in_file_frame files (eval files 0) top_frame 0 code 0 z) (in_file_frame files (eval files 0) top_frame 0 code 0 z) =
+      (same_respects.same_caught 0 top_frame (file_frame code 0 (stand top_frame 0) top_frame.running top_frame.calling) (returned 0) _ _ refl (file_out top_frame top_frame (within_self top_frame) code 0 (stand top_frame 0)) (same_eval files 0 0 0 code.body (file_frame code 0 (stand top_frame 0) top_frame.running top_frame.calling) (omega arith) (omega arith))).by z t in
       let one : 0 < length z.environments = subst (λ all. 0 < length (all ++ record { parent = None; locals = all_nil code.locals } ∷ [])) (sym e) (omega arith) in
       let sound : IsSound z = record {
         parents = subst (λ all. ParentsBelow 0 (all ++ record { parent = None; locals = all_nil code.locals } ∷ [])) (sym e) (tt, tt);

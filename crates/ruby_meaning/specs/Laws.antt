@@ -2,7 +2,8 @@
 use Rattle.std.specs.Prelude.{◌≡◌, ℕ, suc, ◌+◌, ◌<◌, ◌≤◌, List, [], ◌∷◌, ◌++◌, length, IfSome, ⊤}
 use Rattle.ruby_tree.specs.Names.{Bytes}
 use Rattle.ruby_meaning.specs.Store.{cell_limit}
-use Rattle.ruby_meaning.specs.World.{Environment, Closure, World, Outcome, Done, Raise, Break, Next, Return, Retry, Spent, Full}
+use Rattle.ruby_meaning.specs.Value.{Value}
+use Rattle.ruby_meaning.specs.World.{Environment, Closure, World, Frame, Outcome, Done, Raise, Break, Next, Return, Retry, Spent, Full}
 use Rattle.ruby_meaning.specs.PlainRun.{Program, Ending, exit, turns_spent, store_full}
 
 -- the first text with something behind it
@@ -24,16 +25,36 @@ pub record IsSound (w : World) : Type 0 where
   pub parents : ParentsBelow 0 w.environments
   pub closures : EnvironmentsBelow (length w.environments) w.closures
 
--- What holds of the world before a run in the environment e, and the world behind it: turns are never gained, cells only grow and do not pass
--- the limit, output and error text only grow, environments stay, and a sound world stays sound.
-pub record Leads (e : ℕ) (w z : World) : Type 0 where
+-- the names of locals, in order
+abbrev pub names_in : List (Bytes × Value) → List Bytes
+names_in [] = []
+names_in (b ∷ all) = b.0 ∷ names_in all
+
+-- Environments that stand keep their parents and the names of their locals; more may stand behind them.
+abbrev pub EnvironmentsStay : List Environment → List Environment → Type 0
+EnvironmentsStay [] after = ⊤
+EnvironmentsStay (e ∷ all) [] = ⊥
+EnvironmentsStay (e ∷ all) (d ∷ after) = (d.parent ≡ e.parent) × (names_in d.locals ≡ names_in e.locals) × EnvironmentsStay all after
+
+-- closures stay; more may stand behind them
+abbrev pub ClosuresStay : List Closure → List Closure → Type 0
+ClosuresStay all after = (rest : List Closure) × (after ≡ all ++ rest)
+
+-- What holds of the world before a run in a frame, and the world behind it: turns are never gained, cells only grow and do not pass the limit,
+-- output and error text only grow, depth and the files that are loading are as they were, closures and environments stay, and a sound world
+-- stays sound.
+pub record Leads (frame : Frame) (w z : World) : Type 0 where
   pub turns : z.turns ≤ w.turns
   pub cells : w.cells ≤ z.cells
   pub within : w.cells ≤ cell_limit → z.cells ≤ cell_limit
   pub output : Grows w.output z.output
   pub error_text : Grows w.error_text z.error_text
+  pub depth : z.depth ≡ w.depth
+  pub loading : z.loading ≡ w.loading
+  pub closures : ClosuresStay w.closures z.closures
+  pub stay : EnvironmentsStay w.environments z.environments
   pub environments : length w.environments ≤ length z.environments
-  pub sound : e < length w.environments → IsSound w → IsSound z
+  pub sound : frame.environment < length w.environments → IsSound w → IsSound z
 
 -- the same world with more turns
 abbrev pub given : ℕ → World → World

@@ -31,4 +31,5 @@ pub mod PreludeTree
 pub mod Rows
 pub mod WordRows
 pub mod Laws
+pub mod RunLaws
 pub mod Constructs

@@ -1,13 +1,16 @@
 //! What holds of every run, over the definitions alone.
-ghost use Rattle.std.specs.Prelude.{◌≡◌, ℕ, ◌+◌, ◌≤◌, ◌<◌, length};
-ghost use Rattle.ruby_tree.specs.Tree.{Tree};
+ghost use Rattle.std.specs.Prelude.{◌≡◌, ℕ, ◌+◌, ◌≤◌, ◌<◌, Bool, false, [], length};
+ghost use Rattle.ruby_tree.specs.Tree.{SourcePosition, Tree, at, while_loop, rescue, Other};
+ghost use Rattle.ruby_meaning.specs.Value.{Value};
 ghost use Rattle.ruby_meaning.specs.Store.{cell_limit};
-ghost use Rattle.ruby_meaning.specs.World.{World, Frame, Run, world_of};
+ghost use Rattle.ruby_meaning.specs.World.{World, Frame, Spent, Run, world_of};
 ghost use Rattle.ruby_meaning.specs.Files.{Files};
-ghost use Rattle.ruby_meaning.specs.Evaluation.{run, eval, evaluate};
+ghost use Rattle.ruby_meaning.specs.Parts.{in_loop_of, handling};
+ghost use Rattle.ruby_meaning.specs.Evaluation.{run, eval, evaluate, loop, rescuing};
 ghost use Rattle.ruby_meaning.specs.Constructs.{ReadsAsTable, body_of};
 ghost use Rattle.ruby_meaning.specs.PlainRun.{Program, program_run, start_world, plain_run};
-ghost use Rattle.ruby_meaning.specs.Laws.{Grows, IsSound, given, given_out, IsOver, given_program, HasEnded};
+ghost use Rattle.ruby_meaning.specs.RunLaws.{GainsNone, loop_turn, rescue_turn, last_of, Allowed, EndsOutside};
+ghost use Rattle.ruby_meaning.specs.Laws.{Grows, IsSound, EnvironmentsStay, ClosuresStay, given, given_out, IsOver, given_program, HasEnded};
 
 /// What each node does, as the table of nodes reads it, at any fuel and for any meaning of bodies;
 /// and an evaluation is such a run, in which bodies have one fuel less.
@@ -48,4 +51,42 @@ pub fn cells_grow_within_the_limit()
 pub fn parents_are_below()
     ensures reached { (files : Files) (t : Tree) (frame : Frame) (w : World) → frame.environment < length w.environments → IsSound w → IsSound (world_of (evaluate files t frame w)) }
     ensures program { (files : Files) (prelude : Tree) (p : Program) → IsSound (world_of (program_run files prelude p (start_world p))) }
+{}
+
+/// The evaluation is a fixed point: what it gives is one step of `run` whose bodies are the
+/// evaluation itself, at any fuel from the turns on. Such a step gains no turns.
+pub fn evaluation_is_fixed()
+    ensures same { (files : Files) (fuel : ℕ) (t : Tree) (frame : Frame) (w : World) → w.turns ≤ fuel → run files fuel (evaluate files) t frame w ≡ evaluate files t frame w }
+    ensures no_gain { (files : Files) (fuel : ℕ) (t : Tree) (frame : Frame) → GainsNone fuel (run files fuel (evaluate files) t frame) }
+{}
+
+/// With no less fuel than turns, a loop is one turn of it and then the loop again at the same
+/// fuel, and a rescue whose clause ends in a retry is the rescue again. Where they are evaluated,
+/// what comes again is the same node, and no fuel is spoken of.
+pub fn loops_unfold()
+    ensures loops { (fuel : ℕ) (until_true : Bool) (test inner : Run) → GainsNone fuel test → GainsNone fuel inner → (w : World) → w.turns ≤ fuel → loop fuel until_true test inner w ≡ loop_turn until_true test inner (loop fuel until_true test inner) w }
+    ensures rescues { (fuel : ℕ) (inner : Run) (clauses last : Value → Run) → GainsNone fuel inner → ((v : Value) → GainsNone fuel (clauses v)) → (w : World) → w.turns ≤ fuel → rescuing fuel inner clauses last w ≡ rescue_turn inner clauses last (rescuing fuel inner clauses last) w }
+    ensures loop_nodes { (files : Files) (s : SourcePosition) (frame : Frame) (a c : Tree) (u : Bool) (w : World) → evaluate files (at s (while_loop a c u false)) frame w ≡ loop_turn u (evaluate files c frame) (evaluate files a (in_loop_of frame)) (evaluate files (at s (while_loop a c u false)) frame) w }
+    ensures rescue_nodes { (files : Files) (s : SourcePosition) (frame : Frame) (a : Tree) (o : Other) (c : Tree) (w : World) → evaluate files (at s (rescue a o c)) frame w ≡ rescue_turn (evaluate files a frame) (λ v. evaluate files c (handling frame v)) (last_of files o frame) (evaluate files (at s (rescue a o c)) frame) w }
+{}
+
+/// Whatever its outcome, a run leaves the depth and the files that are loading as they were; the
+/// closures that stand stay, and the environments that stand keep their parents and the names of
+/// their locals. A program ends at depth 0, and no file is loading.
+pub fn what_stands_stays()
+    ensures depth { (files : Files) (t : Tree) (frame : Frame) (w : World) → (world_of (evaluate files t frame w)).depth ≡ w.depth }
+    ensures loading { (files : Files) (t : Tree) (frame : Frame) (w : World) → (world_of (evaluate files t frame w)).loading ≡ w.loading }
+    ensures closures { (files : Files) (t : Tree) (frame : Frame) (w : World) → ClosuresStay w.closures (world_of (evaluate files t frame w)).closures }
+    ensures environments { (files : Files) (t : Tree) (frame : Frame) (w : World) → EnvironmentsStay w.environments (world_of (evaluate files t frame w)).environments }
+    ensures program_depth { (files : Files) (prelude : Tree) (p : Program) → (world_of (program_run files prelude p (start_world p))).depth ≡ 0 }
+    ensures program_loading { (files : Files) (prelude : Tree) (p : Program) → (world_of (program_run files prelude p (start_world p))).loading ≡ [] }
+{}
+
+/// A run ends as its frame lets it: a return leaves a method or file that is running, a break a
+/// loop around it or a call that is being evaluated, and it is spent only with no turn left. A
+/// program ends with no return and no break.
+pub fn runs_end_as_they_may()
+    ensures allowed { (files : Files) (t : Tree) (frame : Frame) (w : World) → Allowed frame (evaluate files t frame w) }
+    ensures spent { (files : Files) (t : Tree) (frame : Frame) (w z : World) → evaluate files t frame w ≡ Spent z → z.turns ≡ 0 }
+    ensures program { (files : Files) (prelude : Tree) (p : Program) → EndsOutside (program_run files prelude p (start_world p)) }
 {}
