@@ -2,6 +2,7 @@ pub mod NativeRows
 pub mod NativeTexts
 pub mod Rows
 pub mod Leading
+pub mod ClassGraph
 pub mod Relation
 pub mod Changes
 pub mod StepsOfCalls

@@ -29,4 +29,5 @@ pub mod PreludeTree
 pub mod Rows
 pub mod WordRows
 pub mod Laws
+pub mod ClassGraph
 pub mod Constructs
