@@ -105,7 +105,7 @@ not_below_itself : (n : ℕ) → n < n → ⊥
 not_below_itself n h = omega arith
 
 -- what has something above it is a class or a module
-above_class : (k : Kind) (p : ℕ) → is_one_of p (above_in k) ≡ true → is_class_or_module k ≡ true
+pub above_class : (k : Kind) (p : ℕ) → is_one_of p (above_in k) ≡ true → is_class_or_module k ≡ true
 above_class (string f) p h = absurd (false≢true h)
 above_class (elements vs) p h = absurd (false≢true h)
 above_class (table ps d) p h = absurd (false≢true h)

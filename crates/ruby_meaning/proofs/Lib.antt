@@ -3,6 +3,8 @@ pub mod NativeTexts
 pub mod Rows
 pub mod Leading
 pub mod ClassGraph
+pub mod NativeStores
+pub mod StoreLeading
 pub mod Relation
 pub mod Changes
 pub mod StepsOfCalls

@@ -1,5 +1,5 @@
 -- The graph of classes: what stands right above a class, and that no way upward comes back to where it began.
-use Rattle.std.specs.Prelude.{◌≡◌, ℕ, ◌<◌, true, List, [], ◌∷◌, ◌++◌, Option, Some, None}
+use Rattle.std.specs.Prelude.{◌≡◌, ℕ, ◌<◌, ◌≤◌, true, List, [], ◌∷◌, ◌++◌, length, Option, Some, None}
 use Rattle.ruby_meaning.specs.Value.{Kind, Objects}
 use Rattle.ruby_meaning.specs.Store.{is_one_of, kind_at, class_in, is_class_or_module}
 
@@ -19,3 +19,9 @@ pub record IsGraph (store : Objects) : Type 0 where
   pub rank : ℕ → ℕ
   pub falls : (c p : ℕ) → is_one_of p (above store c) ≡ true → rank p < rank c
   pub leads : (c p : ℕ) → is_one_of p (above store c) ≡ true → is_class_or_module (kind_at store p) ≡ true
+
+-- What a change of the store keeps: objects stay in their places, classes stay classes and nothing else becomes one, and a graph stays one.
+pub record StoreLeads (store next : Objects) : Type 0 where
+  pub longer : length store ≤ length next
+  pub classes : (n : ℕ) → n < length store → is_class_or_module (kind_at next n) ≡ is_class_or_module (kind_at store n)
+  pub graph : IsGraph store → IsGraph next
