@@ -4,6 +4,9 @@ pub mod Rows
 pub mod DataRow
 pub mod Truths
 pub mod Leading
+pub mod ClassGraph
+pub mod NativeStores
+pub mod StoreLeading
 pub mod Relation
 pub mod Catching
 pub mod Changes

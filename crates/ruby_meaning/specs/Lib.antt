@@ -32,4 +32,5 @@ pub mod Rows
 pub mod WordRows
 pub mod Laws
 pub mod RunLaws
+pub mod ClassGraph
 pub mod Constructs
