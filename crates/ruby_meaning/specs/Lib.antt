@@ -15,6 +15,7 @@ pub mod Calls
 pub mod NativeAnswer
 pub mod Blocks
 pub mod Loads
+pub mod Levels
 pub mod Invoke
 pub mod Definitions
 pub mod ClassBodies
