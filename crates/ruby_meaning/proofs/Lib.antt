@@ -9,6 +9,8 @@ pub mod StepsOfLoads
 pub mod StepsOfParts
 pub mod StepsOfTrees
 pub mod Same
+pub mod Fixed
+pub mod Unfolding
 pub mod Longer
 pub mod Start
 pub mod Constructs

@@ -29,4 +29,5 @@ pub mod PreludeTree
 pub mod Rows
 pub mod WordRows
 pub mod Laws
+pub mod RunLaws
 pub mod Constructs

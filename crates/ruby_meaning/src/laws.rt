@@ -1,12 +1,14 @@
 //! What holds of every run, over the definitions alone.
-ghost use Rattle.std.specs.Prelude.{◌≡◌, ℕ, ◌+◌, ◌≤◌, ◌<◌, length};
+ghost use Rattle.std.specs.Prelude.{◌≡◌, ℕ, ◌+◌, ◌≤◌, ◌<◌, Bool, length};
 ghost use Rattle.ruby_tree.specs.Tree.{Tree};
+ghost use Rattle.ruby_meaning.specs.Value.{Value};
 ghost use Rattle.ruby_meaning.specs.Store.{cell_limit};
 ghost use Rattle.ruby_meaning.specs.World.{World, Frame, Run, world_of};
 ghost use Rattle.ruby_meaning.specs.Files.{Files};
-ghost use Rattle.ruby_meaning.specs.Evaluation.{run, eval, evaluate};
+ghost use Rattle.ruby_meaning.specs.Evaluation.{run, eval, evaluate, loop, rescuing};
 ghost use Rattle.ruby_meaning.specs.Constructs.{ReadsAsTable, body_of};
 ghost use Rattle.ruby_meaning.specs.PlainRun.{Program, program_run, start_world, plain_run};
+ghost use Rattle.ruby_meaning.specs.RunLaws.{GainsNone, loop_turn, rescue_turn};
 ghost use Rattle.ruby_meaning.specs.Laws.{Grows, IsSound, given, given_out, IsOver, given_program, HasEnded};
 
 /// What each node does, as the table of nodes reads it, at any fuel and for any meaning of bodies;
@@ -48,4 +50,18 @@ pub fn cells_grow_within_the_limit()
 pub fn parents_are_below()
     ensures reached { (files : Files) (t : Tree) (frame : Frame) (w : World) → frame.environment < length w.environments → IsSound w → IsSound (world_of (evaluate files t frame w)) }
     ensures program { (files : Files) (prelude : Tree) (p : Program) → IsSound (world_of (program_run files prelude p (start_world p))) }
+{}
+
+/// The evaluation is a fixed point: what it gives is one step of `run` whose bodies are the
+/// evaluation itself, at any fuel from the turns on. Such a step gains no turns.
+pub fn evaluation_is_fixed()
+    ensures same { (files : Files) (fuel : ℕ) (t : Tree) (frame : Frame) (w : World) → w.turns ≤ fuel → run files fuel (evaluate files) t frame w ≡ evaluate files t frame w }
+    ensures no_gain { (files : Files) (fuel : ℕ) (t : Tree) (frame : Frame) → GainsNone fuel (run files fuel (evaluate files) t frame) }
+{}
+
+/// With no less fuel than turns, a loop is one turn of it and then the loop again at the same
+/// fuel, and a rescue whose clause ends in a retry is the rescue again.
+pub fn loops_unfold()
+    ensures loops { (fuel : ℕ) (until_true : Bool) (test inner : Run) → GainsNone fuel test → GainsNone fuel inner → (w : World) → w.turns ≤ fuel → loop fuel until_true test inner w ≡ loop_turn until_true test inner (loop fuel until_true test inner) w }
+    ensures rescues { (fuel : ℕ) (inner : Run) (clauses last : Value → Run) → GainsNone fuel inner → ((v : Value) → GainsNone fuel (clauses v)) → (w : World) → w.turns ≤ fuel → rescuing fuel inner clauses last w ≡ rescue_turn inner clauses last (rescuing fuel inner clauses last) w }
 {}
