@@ -1,0 +1,2 @@
+//! Laws of the trees of texts.
+#![tactic(auto)]
