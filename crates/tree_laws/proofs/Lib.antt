@@ -1,2 +1,4 @@
 pub mod Spots
 pub mod FillParts
+pub mod FillStatements
+pub mod SpotsOfTexts
