@@ -2,3 +2,4 @@ pub mod Spots
 pub mod FillParts
 pub mod FillStatements
 pub mod SpotsOfTexts
+pub mod Apart
