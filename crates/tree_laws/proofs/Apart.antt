@@ -1,15 +1,13 @@
 -- The sequences of a text's tree begin at places of their own, within the text.
-use Rattle.std.proofs.Common.{◌≡◌, ℕ, zero, suc, ◌+◌, ◌≤◌, ◌<◌, Bool, true, false, cond, nat_eq, List, [], ◌∷◌, length, take, ◌⊎◌, inl, inr, refl, ap, ◌∙◌, arith}
+use Rattle.std.proofs.Common.{◌≡◌, ℕ, zero, suc, ◌≤◌, ◌<◌, Bool, true, false, cond, nat_eq, List, [], ◌∷◌, length, ◌⊎◌, inl, inr, refl, ap, arith}
 use Rattle.std.specs.List.{IsDistinct, AllByRecursion}
 use Rattle.std.proofs.lemmas.Bool.{eq-eqb}
 use Rattle.ruby_lexer.specs.Bytes.{Bytes}
-use Rattle.ruby_lexer.specs.Pieces.{Toks}
-use Rattle.ruby_lexer.specs.Tokens.{AreTokens, before_end}
+use Rattle.ruby_lexer.specs.Tokens.{before_end}
 use Rattle.ruby_tree.specs.Tree.{Tree}
 use Rattle.ruby_tree.specs.Reading.{Reads}
 use Rattle.ruby_meaning.specs.Sequences.{places}
-use Rattle.tree_laws.proofs.Spots.{one_at, count, spots, Fill, Fits, Got}
-use Rattle.tree_laws.proofs.FillParts.{Filling}
+use Rattle.tree_laws.proofs.Spots.{one_at, count, spots}
 use Rattle.tree_laws.proofs.FillStatements.{filling}
 use Rattle.tree_laws.proofs.SpotsOfTexts.{Sole, tokens_sole}
 

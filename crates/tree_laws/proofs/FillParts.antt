@@ -1,15 +1,15 @@
 -- Each token begins at most one sequence: lists, bodies and operands.
-use Rattle.std.proofs.Common.{◌≡◌, ℕ, ◌+◌, ◌≤◌, Bool, true, false, List, [], ◌∷◌, ◌++◌, if◌then◌else◌, ◌&&◌, codes, Option, Some, None, arith}
+use Rattle.std.proofs.Common.{◌≡◌, ℕ, ◌+◌, Bool, true, false, List, [], ◌∷◌, ◌++◌, if◌then◌else◌, ◌&&◌, codes, Option, arith}
 use Rattle.ruby_lexer.specs.Bytes.{Bytes, same}
 use Rattle.ruby_lexer.specs.Pieces.{Parts, Toks, keyword, mark}
 use Rattle.ruby_tree.specs.Tree.{SourcePosition, Goal, Tree, at, bare_raise, send, constant_path, Trees, no_more, Pairs, Pieces, Other, without, with, Whens, Rescues, Params}
 use Rattle.ruby_tree.specs.Rules.{Scope, DoBlockOwner, next, place_at, position, position_with, word, is_mark, is_word}
-use Rattle.ruby_tree.specs.Build.{Given, nothing, or_empty, call_form, bare_form, path_with, texts_at, symbols_at}
+use Rattle.ruby_tree.specs.Build.{Given, or_empty, call_form, bare_form, path_with, texts_at, symbols_at}
 use Rattle.ruby_tree.specs.Grammar.{Rels, Trailing, Then, LoopStart, Newlines, MethodName, BlockParams, Bars, ExceptionName, MoreTargets, Targets, OnSelf, Several, Element, Elements, Pair, PairList, Passed, Items, InBrackets, CommandItems, Classes, Clauses, Else, Rescued, Body, DoBlock, Block, CallBlock, CommandBlock, CallItems, TextParts, ElseBranches, WhenList, MethodParams, ParameterList, Parameters, Superclass, Literal, Primary, Postfixes, Postfix}
 use Rattle.ruby_tree.specs.Grammar as g
 use Rattle.reference_parser.proofs.Tests.{mark_kind, word_kind}
 use Rattle.ruby_meaning.specs.Sequences.{places, trees_places, other_places, pairs_places, pieces_places, whens_places, clauses_places, params_places}
-use Rattle.tree_laws.proofs.Spots.{one_at, spots, parts_spots, Fill, still, ◌⊕◌, ◌⊗◌, wait, stay, begun, begun_before, regroup, Fits, past, spent, literal_fits, Got, got, GotTwo, got_two, GotGiven, got_given, GotText}
+use Rattle.tree_laws.proofs.Spots.{one_at, spots, Fill, still, ◌⊕◌, ◌⊗◌, wait, stay, begun, begun_before, Fits, past, spent, literal_fits, Got, got, GotTwo, got_two, GotGiven, got_given, GotText}
 
 abbrev GotFor : ℕ → ℕ → Given → ℕ → Toks → Type 0
 GotFor p most c l r = GotGiven p most (trees_places c.trees) (other_places c.value) (other_places c.block) l r

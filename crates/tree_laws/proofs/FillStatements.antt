@@ -1,5 +1,5 @@
 -- Each token begins at most one sequence: operators, assignments, commands and statements.
-use Rattle.std.proofs.Common.{◌≡◌, ℕ, zero, suc, ◌+◌, Bool, ◌∷◌, codes}
+use Rattle.std.proofs.Common.{ℕ, zero, suc, ◌+◌, Bool, codes}
 use Rattle.ruby_lexer.specs.Bytes.{Bytes}
 use Rattle.ruby_lexer.specs.Pieces.{Toks}
 use Rattle.ruby_tree.specs.Tree.{SourcePosition, Goal, to_local, to_instance, to_global, to_constant, Tree, at, Trees}

@@ -1,9 +1,7 @@
 -- How often a place begins a token, and how often a sequence: what is known of the parts of a tree is known of the tree.
-use Rattle.std.proofs.Common.{◌≡◌, ℕ, zero, suc, ◌+◌, ◌≤◌, Bool, true, false, cond, nat_eq, List, [], ◌∷◌, ◌++◌, ap, arith, Option, Some, None}
-use Rattle.ruby_lexer.specs.Bytes.{Bytes}
+use Rattle.std.proofs.Common.{◌≡◌, ℕ, ◌+◌, ◌≤◌, cond, nat_eq, List, [], ◌∷◌, ◌++◌, ap, arith, Option, Some, None}
 use Rattle.ruby_lexer.specs.Pieces.{Kind, Parts, Tok, tok, Toks}
 use Rattle.ruby_lexer.specs.Pieces as token
-use Rattle.ruby_tree.specs.Tree.{Tree, Trees}
 use Rattle.ruby_tree.specs.Rules.{next, front, place_at}
 
 -- 1 for the place itself
@@ -46,7 +44,6 @@ still = record { holds = omega arith }
 
 infixr 10 ◌⊕◌
 infixr 10 ◌⊗◌
-
 -- two parts, in the order of the text
 pub ◌⊕◌ : {p l j m : ℕ} {xs ys : List ℕ} → Fill p xs l j → Fill p ys j m → Fill p (xs ++ ys) l m
 ◌⊕◌ {p} {l} {j} {m} {xs} {ys} a b = record { holds = omega (arith, on p xs ys, a.holds, b.holds) }

@@ -1,5 +1,5 @@
 -- The tokens of a text, within literals too, begin at places of their own.
-use Rattle.std.proofs.Common.{◌≡◌, ℕ, zero, suc, ◌+◌, ◌-◌, ◌≤◌, ◌<◌, [], ◌∷◌, length, drop, Bool, true, false, nat_eq, ◌⊎◌, cond, inl, inr, refl, sym, ap, ◌∙◌, arith, subst, if◌then◌else◌}
+use Rattle.std.proofs.Common.{◌≡◌, ℕ, zero, suc, ◌+◌, ◌≤◌, ◌<◌, [], ◌∷◌, length, drop, Bool, true, false, nat_eq, ◌⊎◌, cond, inl, inr, refl, sym, ◌∙◌, arith, subst, if◌then◌else◌}
 use Rattle.std.proofs.lemmas.Bool.{eqb-true}
 use Rattle.ruby_lexer.specs.declared.class.Class.{Class}
 use Rattle.ruby_lexer.specs.declared.class.Class.TheVariants.{DoubleQuote, Colon}
@@ -13,9 +13,9 @@ use Rattle.ruby_lexer.specs.Cut.{after, closes, with_blank, has_blank, put_line,
 use Rattle.ruby_lexer.specs.Tokens.{before_end, AreTokens}
 use Rattle.ruby_lexer.specs.Scan.{coder}
 use Rattle.ruby_lexer.proofs.Whole.{coding, piece_short}
-use Rattle.reference_laws.proofs.Sited.{LinedAll, LinedOne, LinedKind, LinedParts}
+use Rattle.reference_laws.proofs.Sited.{LinedAll, LinedKind, LinedParts}
 use Rattle.reference_laws.proofs.Tails.{Tail, here, behind, tail_on, tail_drop, escape_tail, LinedPiece, one_fit, forms_fit}
-use Rattle.tree_laws.proofs.Spots.{one_at, spots, spots_of, kind_spots, parts_spots}
+use Rattle.tree_laws.proofs.Spots.{one_at, spots, kind_spots, parts_spots}
 
 -- Tokens whose lines are those of their places by two tables that have no line in common are none.
 abbrev ones : ℕ → ℕ

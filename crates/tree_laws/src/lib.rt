@@ -1,6 +1,7 @@
 //! Laws of the trees of texts. Each is proved once, and its function does nothing. There is no
 //! product code.
 #![tactic(auto)]
+
 ghost use Rattle.std.specs.Prelude.{◌<◌, nat_eq, length};
 ghost use Rattle.std.specs.List.{IsDistinct, AllByRecursion};
 ghost use Rattle.ruby_lexer.specs.Bytes.{Bytes};
