@@ -14,6 +14,7 @@ pub mod Constants
 pub mod Calls
 pub mod Blocks
 pub mod Loads
+pub mod Levels
 pub mod Invoke
 pub mod Definitions
 pub mod ClassBodies
