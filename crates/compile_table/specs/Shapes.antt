@@ -156,6 +156,21 @@ or_set line call branch depth x n flags v =
     (op line Pop (part depth v (set_by_send line call depth x n flags
     (ahead line Jump 2 (op line (SetN depth) (op line (AdjustStack depth) done)))))))
 
+-- the value of `a.m` above nil and the receiver, before it is set
+abbrev pub attribute_read : ℕ → ℕ → Bytes → ℕ → Shape → Shape → Shape
+attribute_read line call x flags a k = op line PutNil (part 1 a (op line Dup (op call (plain_send x 0 flags) k)))
+
+-- the value of `a[i]` above nil, the receiver and the index, before it is set
+abbrev pub index_read : ℕ → ℕ → ℕ → Shape → Shape → Shape → Shape
+index_read line call flags a i k =
+    op line PutNil (part 1 a (part 2 i (op line (TopN 1) (op line (TopN 1) (op call (plain_send (codes "[]") 1 flags) k)))))
+
+-- a loop from its body on: the body, which its two rows hold, and the condition
+abbrev pub turns : ℕ → Bool → Shape → Shape → Shape
+turns line until_true a c =
+    held catches.Next 0 0 (held catches.Break (size c + 3) 0 a done)
+    (op line Pop (part 0 c (behind line (branch_by until_true) (size a + 1 + size c) (op line PutNil done))))
+
 -- where nodes stand within rescue and ensure parts
 
 abbrev pub in_rescue : Where → Tree → Where
@@ -196,13 +211,13 @@ abbrev mutual
   form_shape l (assign_index a i t) = λ s.
       op (start l s) PutNil (part 1 (shape l a) (part 2 (shape l i) (part 3 (shape l t) (set_by_send (start l s) (own l s) 3 (codes "[]=") 2 (self_flag a) done))))
   form_shape l (operate_attribute a x t f m n) = λ s.
-      attribute_shape l a x s (part 3 (shape l t) (op (line_at l n) (plain_send f 1 0) (set_by_send (start l s) (own l s) 2 m 1 (self_flag a) done)))
-  form_shape l (or_attribute a x t m) = λ s. attribute_shape l a x s (or_set (start l s) (own l s) BranchIf 2 m 1 (self_flag a) (shape l t))
-  form_shape l (and_attribute a x t m) = λ s. attribute_shape l a x s (or_set (start l s) (own l s) BranchUnless 2 m 1 (self_flag a) (shape l t))
+      attribute_read (start l s) (own l s) x (self_flag a) (shape l a) (part 3 (shape l t) (op (line_at l n) (plain_send f 1 0) (set_by_send (start l s) (own l s) 2 m 1 (self_flag a) done)))
+  form_shape l (or_attribute a x t m) = λ s. attribute_read (start l s) (own l s) x (self_flag a) (shape l a) (or_set (start l s) (own l s) BranchIf 2 m 1 (self_flag a) (shape l t))
+  form_shape l (and_attribute a x t m) = λ s. attribute_read (start l s) (own l s) x (self_flag a) (shape l a) (or_set (start l s) (own l s) BranchUnless 2 m 1 (self_flag a) (shape l t))
   form_shape l (operate_index a i t f n) = λ s.
-      index_shape l a i s (part 4 (shape l t) (op (line_at l n) (plain_send f 1 0) (set_by_send (start l s) (own l s) 3 (codes "[]=") 2 (self_flag a) done)))
-  form_shape l (or_index a i t) = λ s. index_shape l a i s (or_set (start l s) (own l s) BranchIf 3 (codes "[]=") 2 (self_flag a) (shape l t))
-  form_shape l (and_index a i t) = λ s. index_shape l a i s (or_set (start l s) (own l s) BranchUnless 3 (codes "[]=") 2 (self_flag a) (shape l t))
+      index_read (start l s) (own l s) (self_flag a) (shape l a) (shape l i) (part 4 (shape l t) (op (line_at l n) (plain_send f 1 0) (set_by_send (start l s) (own l s) 3 (codes "[]=") 2 (self_flag a) done)))
+  form_shape l (or_index a i t) = λ s. index_read (start l s) (own l s) (self_flag a) (shape l a) (shape l i) (or_set (start l s) (own l s) BranchIf 3 (codes "[]=") 2 (self_flag a) (shape l t))
+  form_shape l (and_index a i t) = λ s. index_read (start l s) (own l s) (self_flag a) (shape l a) (shape l i) (or_set (start l s) (own l s) BranchUnless 3 (codes "[]=") 2 (self_flag a) (shape l t))
   form_shape l (send o ts ks v x bare t) = λ s.
       receiver_shape l o (start l s) (args_shape l 1 ts (value_shape l (suc (count ts)) v
       (with_literal l (own l s) (Send x (count ts) ks (receiver_flag o + value_flag v + bare_flag bare)) t)))
@@ -226,8 +241,8 @@ abbrev mutual
   form_shape l (if_else c a o) = λ s.
       part 0 (shape l c) (ahead (own l s) BranchUnless (size (shape l a) + 1)
       (part 0 (shape l a) (ahead (own l s) Jump (size (other_shape l o)) (part 0 (other_shape l o) done))))
-  form_shape l (while_loop a c u false) = λ s. ahead (own l s) Jump (size (shape (looped l) a) + 1) (turns_shape l a c u (own l s))
-  form_shape l (while_loop a c u true) = λ s. turns_shape l a c u (own l s)
+  form_shape l (while_loop a c u false) = λ s. ahead (own l s) Jump (size (shape (looped l) a) + 1) (turns (own l s) u (shape (looped l) a) (shape l c))
+  form_shape l (while_loop a c u true) = λ s. turns (own l s) u (shape (looped l) a) (shape l c)
   form_shape l (case_of a ws o) = λ s.
       part 0 (shape l a) (patterns_shape l (own l s) ws (size (other_shape l o) + 2)
       (op (own l s) Pop (part 0 (other_shape l o) (ahead (own l s) Jump (size (cases_shape l (own l s) ws)) (cases_shape l (own l s) ws)))))
@@ -309,23 +324,6 @@ abbrev mutual
   values_shape l (more t no_more) = λ line s. part 0 (shape l t) s
   values_shape l (more t (more u us)) = λ line s.
       part 0 (shape l t) (part 1 (shape l u) (args_shape l 2 us (op line (NewArray (suc (suc (count us))) []) s)))
-
-  -- the value of `a.m` above nil and the receiver, before it is set
-  pub attribute_shape : Where → Tree → Bytes → SourcePosition → Shape → Shape
-  attribute_shape l a x s k =
-      op (start l s) PutNil (part 1 (shape l a) (op (start l s) Dup (op (own l s) (plain_send x 0 (self_flag a)) k)))
-
-  -- the value of `a[i]` above nil, the receiver and the index, before it is set
-  pub index_shape : Where → Tree → Tree → SourcePosition → Shape → Shape
-  index_shape l a i s k =
-      op (start l s) PutNil (part 1 (shape l a) (part 2 (shape l i) (op (start l s) (TopN 1) (op (start l s) (TopN 1)
-      (op (own l s) (plain_send (codes "[]") 1 (self_flag a)) k)))))
-
-  -- a loop from its body on: the body, which its two rows hold, and the condition
-  pub turns_shape : Where → Tree → Tree → Bool → ℕ → Shape
-  turns_shape l a c u line =
-      held catches.Next 0 0 (held catches.Break (size (shape l c) + 3) 0 (shape (looped l) a) done)
-      (op line Pop (part 0 (shape l c) (behind line (branch_by u) (size (shape (looped l) a) + 1 + size (shape l c)) (op line PutNil done))))
 
   -- What a case compares its value with, before the else part. The body of the first is so far behind the tests of all.
   pub patterns_shape : Where → ℕ → Whens → ℕ → Shape → Shape
