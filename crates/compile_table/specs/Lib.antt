@@ -1,3 +1,4 @@
 pub mod Shapes
 pub mod Sequences
 pub mod Order
+pub mod Worked

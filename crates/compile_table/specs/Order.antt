@@ -1,5 +1,5 @@
 -- The order of the rows of a catch table.
-use Rattle.std.specs.Prelude.{ℕ, Bool, true, false, cond, ◌&&◌, ◌||◌, nat_lt, nat_eq, List, [], ◌∷◌}
+use Rattle.std.specs.Prelude.{ℕ, Bool, true, false, cond, ◌&&◌, nat_lt, nat_eq, List, [], ◌∷◌}
 use Rattle.iseq_types.specs.declared.sequences.CatchKind.{CatchKind}
 use Rattle.iseq_types.specs.declared.sequences.CatchKind.TheVariants as kinds
 use Rattle.iseq_types.specs.declared.sequences.CatchRow.{CatchRow}

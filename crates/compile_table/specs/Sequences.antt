@@ -1,7 +1,7 @@
 -- The sequences of a program, and its unit.
-use Rattle.std.specs.Prelude.{ℕ, suc, ◌+◌, nat_le, Bool, true, false, ◌||◌, cond, List, [], ◌∷◌, ◌++◌, length, map}
+use Rattle.std.specs.Prelude.{ℕ, suc, ◌+◌, nat_le, Bool, true, false, cond, List, [], ◌∷◌, ◌++◌, length, map}
 use Rattle.ruby_tree.specs.Names.{Bytes}
-use Rattle.ruby_tree.specs.Tree.{SourcePosition, Tree, at, Form, joined, array, hash, range, constant_path, assign, assign_all, assign_attribute, assign_index, operate_attribute, or_attribute, and_attribute, operate_index, or_index, and_index, send, safe_send, yield, super, bare_super, statements, both, either, negated, if_else, while_loop, case_of, case_tests, return_with, break_with, next_with, rescue, ensure, rescue_sequence, ensure_sequence, method, class, module_named, body, Trees, no_more, more, Other, without, with, Pairs, no_pair, pair, Pieces, no_piece, plain_piece, code_piece, Whens, no_when, when, Rescues, no_clause, clause, Params, no_param, required, optional, rest_param, block_param}
+use Rattle.ruby_tree.specs.Tree.{Tree, at, Form, joined, array, hash, range, constant_path, assign, assign_all, assign_attribute, assign_index, operate_attribute, or_attribute, and_attribute, operate_index, or_index, and_index, send, safe_send, yield, super, bare_super, statements, both, either, negated, if_else, while_loop, case_of, case_tests, return_with, break_with, next_with, rescue, ensure, rescue_sequence, ensure_sequence, method, class, module_named, body, Trees, no_more, more, Other, without, with, Pairs, no_pair, pair, Pieces, no_piece, plain_piece, code_piece, Whens, no_when, when, Rescues, no_clause, clause, Params, no_param, required, optional, rest_param, block_param}
 use Rattle.iseq_types.specs.declared.sequences.SeqKind.{SeqKind}
 use Rattle.iseq_types.specs.declared.sequences.SeqKind.TheVariants as kinds
 use Rattle.iseq_types.specs.declared.sequences.Sequence.{Sequence}
@@ -10,9 +10,9 @@ use Rattle.iseq_types.specs.declared.sequences.Unit.{Unit as CompiledUnit}
 use Rattle.ruby_meaning.specs.Locals.{place_of, first_line_of, params_of, locals_of}
 use Rattle.ruby_meaning.specs.Sequences.{places}
 use Rattle.ruby_meaning.specs.Loads.{file_body}
-use Rattle.ruby_meaning.specs.Levels.{Sight, file_sight, body_sight, block_sight}
-use Rattle.code_meaning.specs.Code.{Routine, Shape, finish, lines_of, rows_of}
-use Rattle.compile_table.specs.Shapes.{Where, number_of, in_rescue, in_ensure, shape}
+use Rattle.ruby_meaning.specs.Levels.{file_sight, body_sight, block_sight}
+use Rattle.code_meaning.specs.Code.{Routine, finish, lines_of, rows_of}
+use Rattle.compile_table.specs.Shapes.{Where, looped, number_of, in_rescue, in_ensure, shape}
 
 -- ---- where the nodes of a body stand
 
@@ -156,7 +156,7 @@ abbrev mutual
   form_sequences l (either a c) = sequences l a ++ sequences l c
   form_sequences l (negated a) = sequences l a
   form_sequences l (if_else c a o) = sequences l c ++ (sequences l a ++ other_sequences l o)
-  form_sequences l (while_loop a c u f) = sequences (record l { loop = true }) a ++ sequences l c
+  form_sequences l (while_loop a c u f) = sequences (looped l) a ++ sequences l c
   form_sequences l (case_of a ws o) = sequences l a ++ (whens_sequences l ws ++ other_sequences l o)
   form_sequences l (case_tests ws o) = whens_sequences l ws ++ other_sequences l o
   form_sequences l (return_with ts) = trees_sequences l ts
