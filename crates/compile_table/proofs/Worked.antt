@@ -4,7 +4,7 @@ use Rattle.std.specs.Fmt.{digits}
 use Rattle.std.specs.Str.{is_utf8, chars}
 use Rattle.iseq_dump.specs.Dump.{groups, number_bytes, fixed_bytes, head_length, head_of}
 use Rattle.compile_table.specs.Sequences.{unit_of}
-use Rattle.compile_table.specs.Worked.{empty_file, sum_file, constants_row, statements_row, text_row, collections_row, variables_row, several_row, calls_row, attributes_row, indices_row, logic_row, loops_row, cases_row, exits_row, bodies_row, block_row, rescue_row, ensure_row, nested_row}
+use Rattle.compile_table.specs.Worked.{empty_file, sum_file, constants_row, statements_row, text_row, collections_row, variables_row, several_row, calls_row, attributes_row, indices_row, logic_row, loops_row, cases_row, exits_row, bodies_row, block_row, rescue_row, ensure_row, nested_row, heads_row, lines_row}
 
 pub empty_file-holds : empty_file
 unfolding digits is_utf8 chars lib.Utf8.encode unit_of groups number_bytes fixed_bytes head_length head_of
@@ -85,3 +85,11 @@ ensure_row-holds = (refl, refl)
 pub nested_row-holds : nested_row
 unfolding digits is_utf8 chars lib.Utf8.encode
 nested_row-holds = (refl, refl)
+
+pub heads_row-holds : heads_row
+unfolding digits is_utf8 chars lib.Utf8.encode
+heads_row-holds = refl
+
+pub lines_row-holds : lines_row
+unfolding digits is_utf8 chars lib.Utf8.encode
+lines_row-holds = refl

@@ -1,20 +1,23 @@
 -- Worked rows of the compile table: what small trees are compiled to.
-use Rattle.std.specs.Prelude.{◌≡◌, ℕ, pos, true, false, List, [], ◌∷◌, ◌++◌, Some, None, map, codes}
+use Rattle.std.specs.Prelude.{◌≡◌, ℕ, pos, true, false, List, [], ◌∷◌, ◌++◌, Some, None, map, codes, Bool}
 use Rattle.std.specs.List.{flat_map}
 use Rattle.ruby_tree.specs.Names.{Bytes}
-use Rattle.ruby_tree.specs.Tree.{to_local, to_instance, to_global, to_constant, Tree, Form, nil_value, true_value, false_value, integer, symbol, text, self_value, file_name, folder_name, line_number, local, instance, global, joined, array, hash, range, constant_path, assign, assign_all, assign_attribute, assign_index, operate_attribute, or_attribute, and_attribute, operate_index, or_index, and_index, send, safe_send, yield, super, bare_super, bare_raise, statements, both, either, negated, if_else, while_loop, case_of, case_tests, return_with, break_with, next_with, retry, rescue, ensure, rescue_sequence, ensure_sequence, method, class, module_named, body, Trees, no_more, more, without, with, no_pair, pair, no_piece, plain_piece, code_piece, no_when, when, no_clause, clause, no_param, required, optional}
+use Rattle.ruby_tree.specs.Tree.{Params, rest_param, block_param, to_local, to_instance, to_global, to_constant, Tree, Form, nil_value, true_value, false_value, integer, symbol, text, self_value, file_name, folder_name, line_number, local, instance, global, joined, array, hash, range, constant_path, assign, assign_all, assign_attribute, assign_index, operate_attribute, or_attribute, and_attribute, operate_index, or_index, and_index, send, safe_send, yield, super, bare_super, bare_raise, statements, both, either, negated, if_else, while_loop, case_of, case_tests, return_with, break_with, next_with, retry, rescue, ensure, rescue_sequence, ensure_sequence, method, class, module_named, body, Trees, no_more, more, without, with, no_pair, pair, no_piece, plain_piece, code_piece, no_when, when, no_clause, clause, no_param, required, optional}
 use Rattle.iseq_types.specs.declared.instructions.Instr.{Instr}
 use Rattle.iseq_types.specs.declared.instructions.Instr.TheVariants.{Pop, Dup, TopN, SetN, AdjustStack, PutNil, PutSelf, PutObject, PutString, GetLocal, SetLocal, GetInstanceVariable, SetInstanceVariable, GetGlobal, SetGlobal, SetConstant, OptGetConstantPath, NewArray, NewHash, NewRange, ConcatStrings, ObjToString, AnyToString, Send, InvokeSuper, InvokeBlock, DefineMethod, DefineClass, CheckMatch, Jump, BranchIf, BranchUnless, BranchNil, Throw, Leave, ExpandArray}
 use Rattle.iseq_types.specs.declared.instructions.Literal.TheVariants.{True, False, Int, Sym}
+use Rattle.iseq_types.specs.declared.sequences.SeqKind.{SeqKind}
 use Rattle.iseq_types.specs.declared.sequences.SeqKind.TheVariants as kinds
 use Rattle.iseq_types.specs.declared.sequences.CatchKind.{CatchKind}
 use Rattle.iseq_types.specs.declared.sequences.CatchKind.TheVariants as catches
 use Rattle.iseq_types.specs.declared.sequences.CatchRow.{CatchRow}
+use Rattle.iseq_types.specs.declared.sequences.IndexRow.{IndexRow}
+use Rattle.iseq_types.specs.declared.sequences.Line.{Line}
 use Rattle.iseq_types.specs.declared.sequences.Unit.{Unit as CompiledUnit}
 use Rattle.iseq_dump.specs.Dump.{head_bytes, head_of, body_bytes}
 use Rattle.ruby_meaning.specs.Node.{node}
 use Rattle.code_meaning.specs.Code.{at_line}
-use Rattle.compile_table.specs.Sequences.{unit_of, sequences_of, Compiled}
+use Rattle.compile_table.specs.Sequences.{unit_of, sequences_of, index_row, Compiled}
 use Rattle.compile_table.specs.Order.{are_in_order}
 
 -- the bytes of a unit's dump
@@ -246,3 +249,49 @@ abbrev pub nested_row : Type 0
 nested_row =
     (rows_in nested_form ≡ row catches.Rescue 0 1 1 0 1 ∷ row catches.Rescue 0 1 1 0 2 ∷ row catches.Rescue 0 1 1 0 3 ∷ row catches.Break 0 1 5 0 0 ∷ row catches.Next 0 1 1 0 0 ∷ [])
     × (are_in_order (rows_in nested_form) ≡ true)
+
+-- ---- sequences
+
+-- a sequence as its index row and its head: kind, parent and locals; name, first line, locals, required ones, entries, rest and block
+abbrev pub heads_of : List Compiled → List (IndexRow × (Bytes × ℕ × List Bytes × ℕ × List ℕ × Bool × Bool))
+heads_of cs =
+    map (λ c. (index_row c, (c.body.name, c.body.first_line, c.body.locals, c.body.required, c.body.entries, c.body.rest, c.body.block))) cs
+
+abbrev pub index : SeqKind → ℕ → ℕ → IndexRow
+index kind parent locals = record { kind = kind; parent = parent; locals = locals }
+
+-- `def f(a, b = 1, c = 2, *d, &g)`, a newline, `begin; x = 3; ensure; f { 4 }; end`, a newline, `end`
+abbrev pub method_params : Params
+method_params = required (codes "a") (optional (codes "b") (num 1) (optional (codes "c") (num 2) (rest_param (codes "d") (block_param (codes "g") no_param))))
+
+abbrev pub method_ensure : Tree
+method_ensure = node 2 2 50 (ensure_sequence (node 2 2 60 (send without no_more [] without (codes "f") false (with (node 2 2 62 (body no_param (node 2 2 64 (integer (pos 4)))))))))
+
+abbrev pub method_form : Form
+method_form = method (codes "f") (node 1 1 0 (body method_params (node 2 2 40 (ensure (node 2 2 42 (assign (node 2 2 46 (integer (pos 3))) (to_local (codes "x")))) method_ensure)))) false
+
+abbrev pub heads_row : Type 0
+heads_row =
+    heads_of (sequences_of (codes "/e.rb") (alone (node 1 1 0 method_form))) ≡
+    (index kinds.File 0 0, ([], 1, [], 0, [], false, false))
+    ∷ (index kinds.Method 0 6, (codes "f", 1, codes "a" ∷ codes "b" ∷ codes "c" ∷ codes "d" ∷ codes "g" ∷ codes "x" ∷ [], 1, 0 ∷ 2 ∷ 4 ∷ [], true, true))
+    ∷ (index kinds.Ensure 1 0, ([], 2, [], 0, [], false, false))
+    ∷ (index kinds.Block 2 0, ([], 2, [], 0, [], false, false)) ∷ []
+
+-- ---- lines
+
+abbrev pub lines_in : List Compiled → List (List Line)
+lines_in cs = map (λ c. c.body.code) cs
+
+-- In three lines: an operator's call of a name in line 2 and of a method in line 3, an `if` in line 4 without an else part, and a def in line 5.
+-- What stands for no token has the first line of its sequence, and so has the last instruction.
+abbrev pub lines_form : Form
+lines_form = statements (more (node 2 3 0 (send (with (node 2 2 0 self_value)) no_more [] without (codes "f") false without)) (more (node 4 4 9 (if_else (node 4 4 12 true_value) (node 4 4 18 (statements (more (node 5 5 20 nil_value) no_more))) without))
+    (more (node 6 6 30 (method (codes "g") (node 6 6 30 (body no_param (node 0 0 0 (statements no_more)))) false)) no_more)))
+
+abbrev pub lines_row : Type 0
+lines_row =
+    lines_in (sequences_of (codes "/e.rb") (node 2 2 0 lines_form)) ≡
+    (at_line 2 PutSelf ∷ at_line 3 (call (codes "f") 0 1) ∷ at_line 2 Pop ∷ at_line 4 (PutObject True) ∷ at_line 4 (BranchUnless 7) ∷ at_line 5 PutNil ∷ at_line 4 (Jump 8) ∷ at_line 1 PutNil
+    ∷ at_line 2 Pop ∷ at_line 6 (DefineMethod (codes "g") 2 0) ∷ at_line 6 (PutObject (Sym (codes "g"))) ∷ at_line 1 Leave ∷ [])
+    ∷ (at_line 6 PutNil ∷ at_line 6 Leave ∷ []) ∷ []

@@ -1,5 +1,5 @@
 //! Worked rows of the compile table.
-ghost use Rattle.compile_table.specs.Worked.{empty_file, sum_file, constants_row, statements_row, text_row, collections_row, variables_row, several_row, calls_row, attributes_row, indices_row, logic_row, loops_row, cases_row, exits_row, bodies_row, block_row, rescue_row, ensure_row, nested_row};
+ghost use Rattle.compile_table.specs.Worked.{empty_file, sum_file, constants_row, statements_row, text_row, collections_row, variables_row, several_row, calls_row, attributes_row, indices_row, logic_row, loops_row, cases_row, exits_row, bodies_row, block_row, rescue_row, ensure_row, nested_row, heads_row, lines_row};
 
 /// What small trees are compiled to. Each clause has the name of its row in specs/Worked.antt.
 pub fn small_units()
@@ -23,4 +23,6 @@ pub fn small_units()
     ensures of_rescue_row { rescue_row }
     ensures of_ensure_row { ensure_row }
     ensures of_nested_row { nested_row }
+    ensures of_heads_row { heads_row }
+    ensures of_lines_row { lines_row }
 {}

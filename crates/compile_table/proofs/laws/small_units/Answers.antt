@@ -1,4 +1,4 @@
-use Rattle.compile_table.proofs.Worked.{empty_file-holds, sum_file-holds, constants_row-holds, statements_row-holds, text_row-holds, collections_row-holds, variables_row-holds, several_row-holds, calls_row-holds, attributes_row-holds, indices_row-holds, logic_row-holds, loops_row-holds, cases_row-holds, exits_row-holds, bodies_row-holds, block_row-holds, rescue_row-holds, ensure_row-holds, nested_row-holds}
+use Rattle.compile_table.proofs.Worked.{empty_file-holds, sum_file-holds, constants_row-holds, statements_row-holds, text_row-holds, collections_row-holds, variables_row-holds, several_row-holds, calls_row-holds, attributes_row-holds, indices_row-holds, logic_row-holds, loops_row-holds, cases_row-holds, exits_row-holds, bodies_row-holds, block_row-holds, rescue_row-holds, ensure_row-holds, nested_row-holds, heads_row-holds, lines_row-holds}
 use Rattle.compile_table.proofs.laws.small_units.Goals as goal
 
 pub returns : goal.returns
@@ -23,4 +23,6 @@ returns c = record {
   of_rescue_row = rescue_row-holds;
   of_ensure_row = ensure_row-holds;
   of_nested_row = nested_row-holds;
+  of_heads_row = heads_row-holds;
+  of_lines_row = lines_row-holds;
 }
