@@ -5,6 +5,7 @@ mod catch;
 mod check;
 mod depths;
 mod instructions;
+pub mod laws;
 mod locals;
 mod operands;
 mod sequences;
