@@ -102,7 +102,7 @@ out_at rows index (suc n) id level home l at =
 pub outward_list : (rows : List IndexRow) (id level home : ℕ) → AreIndexRows rows → Outward rows id level home ↔ (slice_get (homes_of rows id) level ≡ Some home)
 outward_list rows id level home index = (home_at rows id level home index, out_at rows index (suc id) id level home (omega arith))
 
-locals_read : (rows : List IndexRow) (home : ℕ) (row : IndexRow) → slice_get rows home ≡ Some row → locals_of rows home ≡ row.locals
+pub locals_read : (rows : List IndexRow) (home : ℕ) (row : IndexRow) → slice_get rows home ≡ Some row → locals_of rows home ≡ row.locals
 locals_read rows home row e = ap (λ found. unwrap_or (option_map (λ (row : IndexRow). row.locals) found) 0) e
 
 pub local_list : (rows : List IndexRow) (id slot level : ℕ) → AreIndexRows rows → HasLocal rows id slot level ↔ ((home : ℕ) × (slice_get (homes_of rows id) level ≡ Some home) × (slot < locals_of rows home))

@@ -12,3 +12,4 @@ pub mod Whole
 pub mod Homes
 pub mod Taking
 pub mod Firsts
+pub mod Homing
