@@ -1,15 +1,14 @@
 -- The bodies of a dump stand where its index says.
-use Rattle.std.proofs.Common.{◌≡◌, ℕ, zero, suc, ◌+◌, ◌-◌, ◌≤◌, List, [], ◌∷◌, ◌++◌, length, take, drop, Some, refl, sym, ap, subst, ◌∙◌, append_assoc, arith}
-use Rattle.std.specs.Prelude.{slice_get, Contains, All}
+use Rattle.std.proofs.Common.{◌≡◌, ℕ, zero, suc, ◌+◌, List, [], ◌∷◌, ◌++◌, length, take, drop, Some, refl, sym, ap, subst, ◌∙◌, append_assoc, arith}
+use Rattle.std.specs.Prelude.{slice_get}
 use Rattle.std.specs.List.{flat_map, AllByRecursion}
 use Rattle.std.proofs.lemmas.List.{length-append, append-nil, take_at, drop_at, take-append-drop, length-drop, length-map, drop-drop, nil_from_length}
-use Rattle.std.proofs.lemmas.List.Elements.{recursion_from_All, All-contains}
+use Rattle.std.proofs.lemmas.List.Elements.{recursion_from_All}
 use Rattle.std.proofs.lemmas.Option.{same_Some, slice_get-get_or}
 use Rattle.iseq_types.specs.Index.{AreIndexRows}
 use Rattle.iseq_types.specs.Sound.{IsSound, SeqIsRight}
 use Rattle.iseq_types.specs.declared.sequences.CatchKind.{CatchKind}
 use Rattle.iseq_types.specs.declared.sequences.CatchKind.TheVariants as catches
-use Rattle.iseq_types.specs.declared.sequences.CatchRow.{CatchRow}
 use Rattle.iseq_types.specs.declared.sequences.IndexRow.{IndexRow}
 use Rattle.iseq_types.specs.declared.sequences.Sequence.{Sequence}
 use Rattle.iseq_types.specs.declared.sequences.Unit.{Unit as CompiledUnit}
@@ -18,7 +17,7 @@ use Rattle.iseq_dump.specs.declared.head.Head.{Head}
 use Rattle.iseq_dump.specs.Dump.{AllowsSequence, AreTiled, CanBeDumped, HasBody, HasSoundBodies, IsAllowedBody, IsAllowedRow, IsBody, IsHead, IsNumber, Spells, body_bytes, end_of, entries_of, head_bytes, head_length, head_of, lengths_of, rows_of, unit_of}
 use Rattle.iseq_dump.specs.Reading.{bodies_at}
 use Rattle.iseq_dump.proofs.Exact.{found}
-use Rattle.iseq_dump.proofs.Units.{bodies_again, entries_back, head_long, head_of_unit, length-entries, length-lengths, lengths, unit_given}
+use Rattle.iseq_dump.proofs.Units.{bodies_again, entries_back, head_long, length-entries, length-lengths, lengths, unit_given}
 
 -- a body behind others
 body_at_entry : (before : List ℕ) (place : ℕ) (rows : List IndexRow) (bs : List Sequence) (id : ℕ) (entry : Entry) (body : Sequence) → place ≡ length before → AllByRecursion IsBody bs → slice_get (entries_of place rows (lengths_of bs)) id ≡ Some entry → slice_get bs id ≡ Some body → HasBody (before ++ flat_map body_bytes bs) entry body
