@@ -36,6 +36,7 @@ edge_rows = record {
   given_proc = refl;
   place_in_a_block = refl;
   raised_in_a_block = refl;
+  place_outside = refl;
   case_in_a_method = refl;
   case_in_a_block = refl;
   body_once = refl;

@@ -61,6 +61,8 @@ pub record EdgeRows : Type 0 where
   -- what goes wrong in a block that the prelude calls has its place in the block
   pub place_in_a_block : leaves (codes "[0].each do |x|\n  1 / x\nend\n") ≡ shows [] (codes "/main.rb:2: divided by 0 (ZeroDivisionError)\n") (exit 1) []
   pub raised_in_a_block : leaves (codes "[0].map do |x|\n  raise \"b\"\nend\n") ≡ shows [] (codes "/main.rb:2: b (RuntimeError)\n") (exit 1) []
+  -- what goes wrong in a block of the prelude's own has its place where the prelude was called
+  pub place_outside : leaves (codes "x = 1\n[1].sum(\"a\")\n") ≡ shows [] (codes "/main.rb:2: no implicit conversion of Integer into String (TypeError)\n") (exit 1) []
   -- The `===` of a case stands for no token: it has the first line of the method or the block.
   pub case_in_a_method : leaves (codes "class K\n  def ===() 1 end\nend\ndef f(x)\n  y = x\n  case y\n  when K.new\n    1\n  end\nend\nf(1)\n") ≡ shows [] (codes "/main.rb:4: wrong number of arguments (given 1, expected 0) (ArgumentError)\n") (exit 1) []
   pub case_in_a_block : leaves (codes "class K\n  def ===() 1 end\nend\nx = 1\n[1].each do |y|\n  z = y\n  case z\n  when K.new\n    1\n  end\nend\n") ≡ shows [] (codes "/main.rb:5: wrong number of arguments (given 1, expected 0) (ArgumentError)\n") (exit 1) []
