@@ -307,7 +307,7 @@ graph_module store n m g is other free = graph_edge store (with_module store n m
 
 -- Objects behind the others.
 
-kind_behind : (store : Objects) (o : Object) (c : ℕ) → (kind_at (store ++ o ∷ []) c ≡ kind_at store c) ⊎ ((c ≡ length store) × (kind_at (store ++ o ∷ []) c ≡ o.kind))
+pub kind_behind : (store : Objects) (o : Object) (c : ℕ) → (kind_at (store ++ o ∷ []) c ≡ kind_at store c) ⊎ ((c ≡ length store) × (kind_at (store ++ o ∷ []) c ≡ o.kind))
 kind_behind [] o zero = inr (refl, refl)
 kind_behind [] o (suc c) = inl refl
 kind_behind (d ∷ store) o zero = inl refl

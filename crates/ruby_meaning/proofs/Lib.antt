@@ -7,6 +7,7 @@ pub mod Leading
 pub mod ClassGraph
 pub mod NativeStores
 pub mod StoreLeading
+pub mod StoredStores
 pub mod Relation
 pub mod Catching
 pub mod Changes

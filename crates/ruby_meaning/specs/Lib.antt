@@ -34,4 +34,6 @@ pub mod WordRows
 pub mod Laws
 pub mod RunLaws
 pub mod ClassGraph
+pub mod Placed
+pub mod Stored
 pub mod Constructs
