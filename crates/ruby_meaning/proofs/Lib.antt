@@ -8,6 +8,7 @@ pub mod ClassGraph
 pub mod NativeStores
 pub mod StoreLeading
 pub mod StoredStores
+pub mod StoredSteps
 pub mod Relation
 pub mod Catching
 pub mod Changes
