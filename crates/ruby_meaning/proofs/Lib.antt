@@ -9,6 +9,7 @@ pub mod NativeStores
 pub mod StoreLeading
 pub mod StoredStores
 pub mod StoredSteps
+pub mod StoredCalls
 pub mod Relation
 pub mod Catching
 pub mod Changes

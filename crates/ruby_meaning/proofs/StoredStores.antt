@@ -2,7 +2,7 @@
 use Rattle.std.proofs.Common.{◌≡◌, ◌⊎◌, inl, inr, ℕ, zero, suc, Bool, true, false, refl, sym, subst, ap, ◌∙◌, List, [], ◌∷◌, ◌++◌, length, Option}
 use Rattle.std.proofs.lemmas.Bool.{false≢true}
 use Rattle.ruby_tree.specs.Names.{Bytes}
-use Rattle.ruby_meaning.specs.Value.{Value, MethodBody, written, native, reader, writer, MethodRow, Class, Kind, string, elements, table, span, closed, plain, class_or_module, Object, Objects}
+use Rattle.ruby_meaning.specs.Value.{Value, Code, MethodBody, written, native, reader, writer, MethodRow, Class, Kind, string, elements, table, span, closed, plain, class_or_module, Object, Objects}
 use Rattle.ruby_meaning.specs.Store.{kind_at, class_in, class_at, is_class_or_module, with_kind, with_class, with_variables, frozen_now, with_method, with_class_method}
 use Rattle.ruby_meaning.specs.Invoke.{thrown_object}
 use Rattle.ruby_meaning.specs.World.{Closure}
@@ -18,8 +18,11 @@ pub classes_on : (s t : Objects) → StoreLeads s t → (cs : List ℕ) → AreC
 classes_on s t l [] h = tt
 classes_on s t l (c ∷ cs) h = (stays_class s t c l h.0, classes_on s t l cs h.1)
 
+pub code_on : (s t : Objects) → StoreLeads s t → (code : Code) → CodeStored s code → CodeStored t code
+code_on s t l code h = record { placed = h.placed; classes = classes_on s t l code.classes h.classes }
+
 body_on : (s t : Objects) → StoreLeads s t → (b : MethodBody) → BodyStored s b → BodyStored t b
-body_on s t l (written code) h = record { placed = h.placed; classes = classes_on s t l code.classes h.classes }
+body_on s t l (written code) h = code_on s t l code h
 body_on s t l (native n) h = tt
 body_on s t l (reader x) h = tt
 body_on s t l (writer x) h = tt
@@ -31,7 +34,7 @@ rows_on s t l (r ∷ rs) h = (body_on s t l r.body h.0, rows_on s t l rs h.1)
 class_on : (s t : Objects) → StoreLeads s t → (c : Class) → ClassStored s c → ClassStored t c
 class_on s t l c h = (rows_on s t l c.methods h.0, rows_on s t l c.class_methods h.1)
 
-closure_on : (s t : Objects) → StoreLeads s t → (k : Closure) → ClosureStored s k → ClosureStored t k
+pub closure_on : (s t : Objects) → StoreLeads s t → (k : Closure) → ClosureStored s k → ClosureStored t k
 closure_on s t l k h = record { around = h.around; placed = h.placed; home = h.home; classes = classes_on s t l k.code.classes h.classes }
 
 pub closures_on : (s t : Objects) → StoreLeads s t → (all : List Closure) → ClosuresStored s all → ClosuresStored t all

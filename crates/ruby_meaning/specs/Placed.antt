@@ -3,13 +3,17 @@ use Rattle.std.specs.Prelude.{◌≡◌, Bool, true, false, ⊤}
 use Rattle.ruby_tree.specs.Tree.{Tree, at, Form, joined, array, hash, range, constant_path, assign, assign_all, assign_attribute, assign_index, operate_attribute, or_attribute, and_attribute, operate_index, or_index, and_index, send, safe_send, yield, super, bare_super, statements, both, either, negated, if_else, while_loop, case_of, case_tests, return_with, break_with, next_with, rescue, ensure, rescue_sequence, ensure_sequence, method, class, module_named, body, Trees, no_more, more, Other, without, with, Pairs, no_pair, pair, Pieces, no_piece, plain_piece, code_piece, Whens, no_when, when, Rescues, no_clause, clause, Params, no_param, required, optional, rest_param, block_param}
 use Rattle.ruby_tree.specs.Placement.{Home, in_method, in_class, Around, in_loop, in_block, in_clause, outside_clause, at_home, are_required, is_fault}
 
--- the home that the body of a method is
-abbrev pub home_in : Form → Home
-home_in (body ps a) = in_method (are_required ps)
-home_in f = in_method true
+-- whether each parameter of a body is a required one
+abbrev pub all_required_in : Form → Bool
+all_required_in (body ps a) = are_required ps
+all_required_in f = true
 
+abbrev pub all_required_of : Tree → Bool
+all_required_of (at o f) = all_required_in f
+
+-- the home that the body of a method is
 abbrev pub home_of : Tree → Home
-home_of (at o f) = home_in f
+home_of t = in_method (all_required_of t)
 
 abbrev mutual
   -- No node is a fault for by itself where it stands, nor is one within it: in a loop, a block or a method of its own, in a class, or in the
