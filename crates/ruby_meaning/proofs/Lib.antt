@@ -10,6 +10,7 @@ pub mod StoreLeading
 pub mod StoredStores
 pub mod StoredSteps
 pub mod StoredCalls
+pub mod StoredLoads
 pub mod Relation
 pub mod Catching
 pub mod Changes
