@@ -11,6 +11,8 @@ pub mod StoredStores
 pub mod StoredSteps
 pub mod StoredCalls
 pub mod StoredLoads
+pub mod StoredParts
+pub mod StoredTrees
 pub mod Relation
 pub mod Catching
 pub mod Changes
