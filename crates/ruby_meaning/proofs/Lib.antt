@@ -27,6 +27,7 @@ pub mod EvaluatedLoops
 pub mod Longer
 pub mod Start
 pub mod Ends
+pub mod StoredPrograms
 pub mod Constructs
 pub mod MoreTurns
 pub mod Plans

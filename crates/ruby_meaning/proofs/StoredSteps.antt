@@ -20,7 +20,7 @@ pub record Known : Type 1 where
   pub stays : (s t : Objects) → StoreLeads s t → holds s → holds t
 
 -- nothing is known
-pub nothing : Known
+abbrev pub nothing : Known
 nothing = record { holds = λ s. Unit {0}; stays = λ s t l h. tt }
 
 -- and this number is a class's
