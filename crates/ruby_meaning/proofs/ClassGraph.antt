@@ -1,13 +1,13 @@
 -- The graph of classes: how many steps a way upward has at most, and what keeps the graph.
 use Rattle.std.proofs.Common.{◌≡◌, ◌⊎◌, inl, inr, ℕ, zero, suc, ◌+◌, ◌≤◌, ◌<◌, Bool, true, false, refl, sym, subst, ap, ◌∙◌, arith, List, [], ◌∷◌, ◌++◌, length, Option, Some, None}
 use Rattle.std.specs.Prelude.{◌&&◌, ◌||◌, cond, nat_eq, nat_lt, map}
-use Rattle.std.specs.List.{list_all, list_any, AllByRecursion, IsDistinct}
+use Rattle.std.specs.List.{list_all, AllByRecursion, IsDistinct}
 use Rattle.std.proofs.lemmas.Bool.{and_parts, false≢true, ltb-true, eqb-true, eq-eqb, false_from_ne_true}
 use Rattle.std.proofs.lemmas.List.Folds.{list_any-append}
 use Rattle.std.proofs.lemmas.Map.Steps.{length-le_from_distinct_below}
 use Rattle.ruby_tree.specs.Names.{Bytes}
 use Rattle.ruby_meaning.specs.Value.{MethodBody, Kind, string, elements, table, span, closed, plain, class_or_module, Object, Objects}
-use Rattle.ruby_meaning.specs.Store.{new_string, is_one_of, kind_at, with_kind, class_in, class_at, is_class_or_module, without_number, each_once, all_lines, line_if, line_of, ancestors, superclasses, Place, rows_of, rows_at, row_named, Found, found_or, find_in}
+use Rattle.ruby_meaning.specs.Store.{new_string, is_one_of, kind_at, with_kind, class_at, is_class_or_module, without_number, each_once, all_lines, line_if, line_of, ancestors, superclasses, rows_of, rows_at, row_named, found_or, find_in}
 use Rattle.ruby_meaning.specs.Natives.OfModule.{with_module}
 use Rattle.ruby_meaning.specs.PlainRun.{Program, start_store}
 use Rattle.ruby_meaning.specs.ClassGraph.{number_if, above_in, above, IsGraph}

@@ -13,6 +13,7 @@ pub mod StoredCalls
 pub mod StoredLoads
 pub mod StoredParts
 pub mod StoredTrees
+pub mod StoredFrames
 pub mod Relation
 pub mod Catching
 pub mod Changes

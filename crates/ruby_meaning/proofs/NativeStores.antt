@@ -1,17 +1,17 @@
 -- What each native does to the store, for any relation of stores that the few changes keep which natives make.
-use Rattle.std.proofs.Common.{◌≡◌, ℕ, ℤ, zero, suc, pos, negsuc, Bool, true, false, refl, sym, subst, ap, ◌∙◌, List, [], ◌∷◌, ◌++◌, append_assoc, append-nil, length, Option, Some, None}
+use Rattle.std.proofs.Common.{◌≡◌, ℕ, ℤ, pos, negsuc, Bool, true, false, refl, sym, subst, ap, List, [], ◌∷◌, ◌++◌, append_assoc, append-nil, length, Option, Some, None}
 use Rattle.std.specs.Prelude.{◌+ℤ◌, ◌-ℤ◌, ◌*ℤ◌, neg_ℤ, int_lt, int_le}
 use Rattle.ruby_meaning.specs.Natives.Whole.{place_in}
 use Rattle.ruby_meaning.specs.Numbers.{closed_classes}
 use Rattle.ruby_meaning.specs.Natives.Sorting.{in_order, by_themselves}
-use Rattle.std.specs.Prelude.{⊤, map, not, nat_eq, nat_lt, nat_le}
+use Rattle.std.specs.Prelude.{⊤, map, not, nat_lt, nat_le}
 use Rattle.std.proofs.lemmas.Option.{same_Some, none-some}
 use Rattle.ruby_tree.specs.Names.{Bytes}
 use Rattle.ruby_meaning.specs.Value.{Value, nil, yes, no, number, symbol_named, object, MethodBody, written, native, reader, writer, MethodRow, Class, Kind, string, elements, table, span, closed, plain, class_or_module, Object, Objects}
 use Rattle.ruby_meaning.specs.Store.{new_object, new_string, kind_at, with_kind, frozen_now, is_frozen_at, is_one_of, ancestors, is_class_or_module, with_method}
 use Rattle.ruby_meaning.specs.NativeName.{Native, object_equal, object_not, object_class, object_is_a, object_is_nil, object_responds, object_to_text, object_inspect, object_freeze, object_is_frozen, object_copy, object_new_table, nil_to_text, nil_inspect, nil_to_array, nil_to_integer, bool_to_text, bool_inspect, integer_add, integer_subtract, integer_multiply, integer_divide, integer_modulo, integer_power, integer_and, integer_or, integer_xor, integer_shift_left, integer_shift_right, integer_minus, integer_plus, integer_complement, integer_less, integer_at_most, integer_more, integer_at_least, integer_compare, integer_to_text, integer_inspect, integer_to_integer, integer_absolute, integer_is_even, integer_is_odd, integer_is_zero, integer_successor, string_add, string_repeat, string_equal, string_compare, string_less, string_at_most, string_more, string_at_least, string_index, string_size, string_byte_size, string_is_empty, string_upcase, string_downcase, string_capitalize, string_strip, string_chomp, string_starts_with, string_ends_with, string_includes, string_place_of, string_replace_first, string_replace_all, string_split, string_characters, string_lines, string_left_justify, string_right_justify, string_to_integer, string_to_text, string_to_symbol, string_inspect, string_append, symbol_to_text, symbol_to_symbol, symbol_size, symbol_inspect, array_size, array_is_empty, array_index, array_set_index, array_append, array_push, array_unshift, array_pop, array_shift, array_concat, array_add, array_subtract, array_unique, array_delete, array_delete_at, array_clear, array_reverse, array_first, array_last, array_sort, array_join, array_sort_pairs, hash_index, hash_set_index, hash_has_key, hash_delete, hash_keys, hash_values, hash_size, hash_is_empty, hash_merge, hash_clear, range_first, range_last, range_excludes_end, module_name, module_case_equal, module_superclass, module_include, module_attribute_reader, module_attribute_writer, module_attribute_accessor, class_allocate, control}
 use Rattle.ruby_meaning.specs.Natives.{meaning_of}
-use Rattle.ruby_meaning.specs.Native.{Answer, gives, raises, Meaning}
+use Rattle.ruby_meaning.specs.Native.{Answer, gives, raises}
 use Rattle.ruby_meaning.specs.Natives.Reading.{Table, Span, as_number, as_symbol, as_text, as_array, as_table, as_span, as_class, as_module, module_found, if_module, elements_in, table_in, class_found, received, wanted, with_one, with_two, changed_if, changing, wants_texts, wants_symbols}
 use Rattle.ruby_meaning.specs.Natives.OfArray.{with_elements}
 use Rattle.ruby_meaning.specs.Natives.OfModule.{with_module, with_rows}

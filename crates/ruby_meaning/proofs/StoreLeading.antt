@@ -1,12 +1,12 @@
 -- What each change of the store keeps.
-use Rattle.std.proofs.Common.{◌≡◌, ◌⊎◌, inl, inr, ℕ, zero, suc, ◌+◌, ◌≤◌, ◌<◌, Bool, true, false, refl, sym, subst, ap, ◌∙◌, arith, List, [], ◌∷◌, ◌++◌, length, length-append, Option, Some, None}
+use Rattle.std.proofs.Common.{◌≡◌, ◌⊎◌, inl, inr, ℕ, zero, suc, ◌≤◌, ◌<◌, true, false, refl, sym, subst, ap, ◌∙◌, arith, List, [], ◌∷◌, ◌++◌, length, length-append, Option}
 use Rattle.std.proofs.lemmas.Bool.{false≢true}
 use Rattle.ruby_tree.specs.Names.{Bytes}
 use Rattle.ruby_meaning.specs.Value.{Value, MethodRow, Class, Kind, elements, table, class_or_module, Object, Objects}
 use Rattle.ruby_meaning.specs.Store.{is_one_of, ancestors, kind_at, class_at, is_class_or_module, with_kind, with_class, with_variables, frozen_now, with_method, with_class_method}
 use Rattle.ruby_meaning.specs.Natives.OfModule.{with_module}
-use Rattle.ruby_meaning.specs.Invoke.{with_place, thrown_object}
-use Rattle.ruby_meaning.specs.ClassGraph.{above_in, above, IsGraph, StoreLeads}
+use Rattle.ruby_meaning.specs.Invoke.{thrown_object}
+use Rattle.ruby_meaning.specs.ClassGraph.{above_in, above, StoreLeads}
 use Rattle.ruby_meaning.proofs.ClassGraph.{class_below, above_class, graph_less, kind_with, graph_with_kind, graph_module, graph_behind, kind_before}
 use Rattle.ruby_meaning.proofs.NativeStores.{KeepsStores}
 

@@ -1,5 +1,5 @@
 -- Calls of methods and blocks, and natives, from a stored world.
-use Rattle.std.proofs.Common.{◌≡◌, subst, ℕ, zero, suc, ◌+◌, ◌-◌, Bool, true, false, cond, min, refl, sym, List, [], ◌∷◌, length, drop, Option, Some, None}
+use Rattle.std.proofs.Common.{◌≡◌, subst, ℕ, zero, suc, ◌+◌, ◌-◌, Bool, true, false, cond, min, refl, List, [], ◌∷◌, length, drop, Option, Some, None}
 use Rattle.std.specs.Prelude.{codes, nat_le, slice_get, ⊤}
 use Rattle.std.proofs.lemmas.Bool.{false≢true}
 use Rattle.std.proofs.lemmas.Option.{same_Some, none-some}
@@ -7,27 +7,27 @@ use Rattle.ruby_lexer.specs.Bytes.{same}
 use Rattle.ruby_tree.specs.Names.{Bytes}
 use Rattle.ruby_tree.specs.Tree.{Tree}
 use Rattle.ruby_tree.specs.Placement.{Around, at_home, in_block}
-use Rattle.ruby_meaning.specs.Value.{Value, nil, yes, no, number, symbol_named, object, Source, Code, MethodBody, MethodRow, elements, closed, Objects}
+use Rattle.ruby_meaning.specs.Value.{Value, nil, object, Source, Code, MethodBody, MethodRow, elements, closed, Objects}
 use Rattle.ruby_meaning.specs.Numbers.{argument_error, frozen_error, local_jump_error}
 use Rattle.ruby_meaning.specs.NativeName.{Native, control}
 use Rattle.ruby_meaning.specs.Store.{cell_limit, Place, rows_of, class_rows_of, rows_at, row_named, Found, found_or, find_in, array_cells, proc_cells, environment_cells, new_object, has_name, variables_at, name_of_class_of}
-use Rattle.ruby_meaning.specs.Native.{Answer, gives, raises, Meaning, Count}
+use Rattle.ruby_meaning.specs.Native.{Answer, gives, raises, Count}
 use Rattle.ruby_meaning.specs.NativeAnswer.{NativeAnswer, itself, by_control, native_answer}
 use Rattle.ruby_meaning.specs.Natives.{meaning_of, count_of}
 use Rattle.ruby_meaning.specs.Natives.Messages.{no_change}
 use Rattle.ruby_meaning.specs.Locals.{place_of, params_of}
 use Rattle.ruby_meaning.specs.Sequences.{sequence_number}
-use Rattle.ruby_meaning.specs.World.{Given, no_block, literal_block, given_proc, Closure, Step, entered, World, Frame, Outcome, Done, Run}
-use Rattle.ruby_meaning.specs.Steps.{changing, charged, with_objects, returned, gone_on}
+use Rattle.ruby_meaning.specs.World.{Given, no_block, literal_block, given_proc, Closure, Step, entered, World, Frame, Done, Run}
+use Rattle.ruby_meaning.specs.Steps.{changing, charged, with_objects}
 use Rattle.ruby_meaning.specs.Calls.{is_entered, with_step, with_entry, enter_load, enter, count_of_params, counted, fits, wrong_count, with_rest, proc_of, with_block_param, with_locals, has_block_param, bound, all_nil, with_names, with_environment, next_environment, optional_given, method_frame, block_frame, answered, settable, set_in, first_cost, set_variable, with_variable, block_arguments, no_method, call_fault, call_fault_class}
 use Rattle.ruby_meaning.specs.Blocks.{no_block_given, in_method_frame, run_method, in_block_frame, run_closure, run_block, run_given}
 use Rattle.ruby_meaning.specs.ClassGraph.{StoreLeads}
 use Rattle.ruby_meaning.specs.Placed.{home_of, IsPlaced}
-use Rattle.ruby_meaning.specs.Stored.{AreClasses, CodeStored, BodyStored, RowsStored, AllStored, ClosureStored, ClosuresStored, IsStored, FrameFits}
+use Rattle.ruby_meaning.specs.Stored.{CodeStored, BodyStored, RowsStored, AllStored, ClosureStored, ClosuresStored, IsStored, FrameFits, StoredOut}
 use Rattle.ruby_meaning.proofs.NativeStores.{Fine, native_keeps}
 use Rattle.ruby_meaning.proofs.StoreLeading.{store_same}
-use Rattle.ruby_meaning.proofs.StoredStores.{classes_on, code_on, closure_on, StoreKeeps, keeps_same, keeps_variables, natives_keep}
-use Rattle.ruby_meaning.proofs.StoredSteps.{Known, KeepsOut, Keeps, Moves, moves_objects, moves_same, keep_done, keep_reading, keep_read, keep_changing, keep_choose, keep_pay, keep_charge, keep_make, keep_raise_new, keep_deeper, returned_out, gone_on_out}
+use Rattle.ruby_meaning.proofs.StoredStores.{classes_on, code_on, closure_on, StoreKeeps, keeps_variables, natives_keep}
+use Rattle.ruby_meaning.proofs.StoredSteps.{Known, Keeps, Moves, moves_objects, moves_same, keep_done, keep_reading, keep_read, keep_changing, keep_choose, keep_pay, keep_charge, keep_make, keep_raise_new, keep_deeper, returned_out, gone_on_out}
 
 -- What is known of a frame.
 
@@ -113,14 +113,14 @@ module _ (k : Known) (c : Around) where
 
   -- Answers of natives.
 
-  given_out : (t : Bool) (cells : ℕ) (store : Objects) (v : Value) (w : World) → StoreKeeps w.objects store → IsStored w → KeepsOut c w (charged t cells w (changing (with_objects store) (Done v)))
+  given_out : (t : Bool) (cells : ℕ) (store : Objects) (v : Value) (w : World) → StoreKeeps w.objects store → IsStored w → StoredOut c w (charged t cells w (changing (with_objects store) (Done v)))
   given_out true cells store v w l s =
       let z : World = with_objects store (record w { cells = w.cells + cells }) in
       let x : Moves w z = moves_objects w z l refl s in
       record { leads = x.leads; stored = x.stored; placed = tt }
   given_out false cells store v w l s = record { leads = store_same w.objects; stored = s; placed = tt }
 
-  pub answered_out : (frame : Frame) (line : ℕ) (a : Answer) (w : World) → Fine StoreKeeps natives_keep w.objects a → k.holds w.objects → IsStored w → KeepsOut c w (answered frame line a w)
+  pub answered_out : (frame : Frame) (line : ℕ) (a : Answer) (w : World) → Fine StoreKeeps natives_keep w.objects a → k.holds w.objects → IsStored w → StoredOut c w (answered frame line a w)
   answered_out frame line (gives cells store v) w l p s = given_out (nat_le (w.cells + cells) cell_limit) cells store v w l s
   answered_out frame line (raises n message) w l p s = (keep_raise_new k c frame line n message).by w p s
 
@@ -209,7 +209,7 @@ module _ (b : Tree → Frame → Run) (h : Bodies b) (k : Known) (c : Around) wh
       keep_pay j c _ (keep_deeper j c frame line _ (keep_entering j c d.code.source (place_of d.code.body) _
       (keep_reading j c (λ w. block_arguments w.objects (params_of d.code.body) vs) _ (λ us. keep_locals j c (Some d.environment) d.code us no_block _ (keep_in_block frame line d i)))))
 
-  closure_out : (frame : Frame) (line i : ℕ) (vs : List Value) (o : Option Closure) (w : World) → slice_get w.closures i ≡ o → k.holds w.objects → IsStored w → KeepsOut c w (run_closure b frame line i vs o w)
+  closure_out : (frame : Frame) (line i : ℕ) (vs : List Value) (o : Option Closure) (w : World) → slice_get w.closures i ≡ o → k.holds w.objects → IsStored w → StoredOut c w (run_closure b frame line i vs o w)
   closure_out frame line i vs None w e p s = (keep_no_block frame line).by w p s
   closure_out frame line i vs (Some d) w e p s = (keep_closure frame line i vs d).by w (p, closure_at w.objects w.closures i d e s.closures) s
 

@@ -13,25 +13,25 @@ use Rattle.ruby_tree.specs.Names.{Bytes}
 use Rattle.ruby_tree.specs.Tree.{Tree}
 use Rattle.ruby_tree.specs.Placement.{Around, at_home, file}
 use Rattle.ruby_meaning.specs.NativeName.{Native, Control, control_require, control_require_relative, control_load, control_gets, control_block_given, control_emit, control_throw, control_call, control_load_yaml, control_load_json}
-use Rattle.ruby_meaning.specs.Value.{Value, nil, yes, no, number, symbol_named, object, Code, MethodBody, written, native, reader, writer, elements, table, Objects}
+use Rattle.ruby_meaning.specs.Value.{Value, nil, yes, no, number, symbol_named, object, Code, MethodBody, written, native, reader, writer, elements, table}
 use Rattle.ruby_meaning.specs.Numbers.{load_error, syntax_error, runtime_error, type_error, frozen_error, exception, features}
 use Rattle.ruby_meaning.specs.Store.{Place, Found, array_cells, hash_cells, environment_cells, new_object, kind_at, is_frozen_at, truth_value, with_pairs, is_true, is_a, find_method, places_for}
 use Rattle.ruby_meaning.specs.Natives.{control_count}
 use Rattle.ruby_meaning.specs.Natives.Messages.{no_conversion, no_change}
 use Rattle.ruby_meaning.specs.Natives.Reading.{called}
-use Rattle.ruby_meaning.specs.World.{ruby_file, data_file, Given, no_block, Ask, ask_require, ask_relative, ask_load, Step, asked, loaded, World, Frame, Done, Raise, Run, text_of, elements_in, path_of, loaded_of}
-use Rattle.ruby_meaning.specs.Steps.{changing, stand, returned}
+use Rattle.ruby_meaning.specs.World.{ruby_file, data_file, Given, no_block, Ask, ask_require, ask_relative, ask_load, Step, asked, loaded, World, Frame, Done, Run, text_of, elements_in, path_of, loaded_of}
+use Rattle.ruby_meaning.specs.Steps.{changing, stand}
 use Rattle.ruby_meaning.specs.Calls.{with_step, with_entry, all_nil, next_environment, variable_of}
 use Rattle.ruby_meaning.specs.NativeAnswer.{NativeAnswer, itself, by_control, native_answer}
 use Rattle.ruby_meaning.specs.Files.{Files, RubyFile, no_ruby, ruby_fault, ruby_tree, DataFile, no_data_file, data_fault, data_value}
 use Rattle.ruby_meaning.specs.Search.{slash, resolve, Resolved, provided, found_at, missing, missing_name}
-use Rattle.ruby_meaning.specs.Loads.{no_such_file, cannot_load, fault_at, file_code, file_frame, next_load, Making, make_datum, make_all, make_pairs, make_layer, data_loaded, with_feature, push_feature, with_loading, while_loading, load_data, in_file_frame, run_code, ruby_loaded, load_ruby, after_load, resolved, ask_for}
+use Rattle.ruby_meaning.specs.Loads.{no_such_file, cannot_load, fault_at, file_code, file_frame, next_load, Making, make_datum, make_all, make_pairs, make_layer, data_loaded, with_feature, push_feature, with_loading, while_loading, load_data, run_code, ruby_loaded, load_ruby, after_load, resolved, ask_for}
 use Rattle.ruby_meaning.specs.Invoke.{first_of, second_of, with_text_found, with_text, written_out, first_line, with_line_taken, line_or_nil, get_line, is_given, thrown, throw_if, closure_of, call_closure, load_named, run_control, run_answer, run_native, run_found, run_if_found, call_method, send_to}
 use Rattle.ruby_meaning.specs.Placed.{IsPlaced}
-use Rattle.ruby_meaning.specs.Stored.{BodyStored, IsStored, ArePlaced}
+use Rattle.ruby_meaning.specs.Stored.{BodyStored, IsStored, ArePlaced, StoredOut}
 use Rattle.ruby_meaning.proofs.StoreLeading.{store_with_kind}
 use Rattle.ruby_meaning.proofs.StoredStores.{keeps_kind, keeps_thrown}
-use Rattle.ruby_meaning.proofs.StoredSteps.{Known, KeepsOut, Keeps, Moves, moves_objects, moves_same, keep_stay, keep_done, keep_raise, keep_then, keep_reading, keep_read, keep_changing, keep_choose, keep_pay, keep_charge, keep_make, keep_make_string, keep_raise_new, keep_between, keep_deeper, returned_out}
+use Rattle.ruby_meaning.proofs.StoredSteps.{Known, Keeps, Moves, moves_objects, moves_same, keep_done, keep_raise, keep_then, keep_reading, keep_read, keep_changing, keep_choose, keep_pay, keep_charge, keep_make, keep_make_string, keep_raise_new, keep_between, keep_deeper, returned_out}
 use Rattle.ruby_meaning.proofs.StoredCalls.{Bodies, AnswerFine, native_fine, FoundStored, find_stored, moves_with_entry, keep_opening, keep_counted, keep_set_variable, keep_no_method, answered_out, keep_method, keep_block}
 
 moves_written : (t : Bool) (f : Bytes) (w : World) → IsStored w → Moves w (written_out t f w)
@@ -193,7 +193,7 @@ module _ (k : Known) (c : Around) where
     keep_control control_load_yaml frame line self vs = keep_load_named frame line data_kind.Yaml (first_of vs)
     keep_control control_load_json frame line self vs = keep_load_named frame line data_kind.Json (first_of vs)
 
-    answer_out : (frame : Frame) (line : ℕ) (self : Value) (vs : List Value) (a : NativeAnswer) (w : World) → AnswerFine w.objects a → k.holds w.objects → IsStored w → KeepsOut c w (run_answer files b frame line self vs a w)
+    answer_out : (frame : Frame) (line : ℕ) (self : Value) (vs : List Value) (a : NativeAnswer) (w : World) → AnswerFine w.objects a → k.holds w.objects → IsStored w → StoredOut c w (run_answer files b frame line self vs a w)
     answer_out frame line self vs (itself a) w fine p s = answered_out k c frame line a w fine p s
     answer_out frame line self vs (by_control d) w fine p s = (keep_counted k c frame line (control_count d) (length vs) _ (keep_control d frame line self vs)).by w p s
 
@@ -202,7 +202,7 @@ module _ (k : Known) (c : Around) where
         keep_read k c (λ w. native_answer n w.objects self vs) (run_answer files b frame line self vs) (λ w p s. answer_out frame line self vs (native_answer n w.objects self vs) w (native_fine n w.objects self vs) p s)
 
     found_out : (frame : Frame) (line : ℕ) (self : Value) (x : Bytes) (vs : List Value) (g : Given) (place : Place) (body : MethodBody) (w : World) → BodyStored w.objects body → k.holds w.objects → IsStored w →
-        KeepsOut c w (run_found files b frame line self x vs g place body w)
+        StoredOut c w (run_found files b frame line self x vs g place body w)
     found_out frame line self x vs g place (written code) w stored p s = (keep_method b h k c frame line code self x place vs g).by w (p, stored) s
     found_out frame line self x vs g place (native n) w stored p s = (keep_native n frame line self vs).by w p s
     found_out frame line self x vs g place (reader y) w stored p s =
@@ -211,7 +211,7 @@ module _ (k : Known) (c : Around) where
         (keep_counted k c frame line (record { required = 1; optional = 0; rest = false }) (length vs) _ (keep_set_variable k c frame line self y (first_of vs))).by w p s
 
     pub if_found_out : (frame : Frame) (line : ℕ) (self : Value) (x : Bytes) (vs : List Value) (g : Given) (bare : Bool) (o : Option Found) (w : World) → FoundStored w.objects o → k.holds w.objects → IsStored w →
-        KeepsOut c w (run_if_found files b frame line self x vs g bare o w)
+        StoredOut c w (run_if_found files b frame line self x vs g bare o w)
     if_found_out frame line self x vs g bare None w stored p s = (keep_no_method k c frame line self x bare).by w p s
     if_found_out frame line self x vs g bare (Some f) w stored p s = found_out frame line self x vs g f.place f.body w stored p s
 

@@ -1,8 +1,7 @@
 -- What is defined, set and left, from a stored world.
-use Rattle.std.proofs.Common.{◌≡◌, ℕ, zero, suc, ◌+◌, Bool, true, false, cond, refl, sym, subst, ap, List, [], ◌∷◌, ◌++◌, length, Option, Some, None, ℤ}
+use Rattle.std.proofs.Common.{◌≡◌, ℕ, ◌+◌, Bool, true, false, cond, refl, sym, subst, List, [], ◌∷◌, ◌++◌, length, Option, Some, None, ℤ}
 use Rattle.std.specs.Prelude.{codes, nat_eq, ◌||◌}
 use Rattle.std.proofs.lemmas.Bool.{false≢true, eqb-true}
-use Rattle.std.proofs.lemmas.Option.{same_Some, none-some}
 use Rattle.ruby_tree.specs.Names.{Bytes}
 use Rattle.ruby_tree.specs.Tree.{Tree, Goal, to_local, to_instance, to_global, to_constant}
 use Rattle.ruby_tree.specs.Placement.{Around, at_home}
@@ -12,18 +11,18 @@ use Rattle.ruby_meaning.specs.Numbers.{object_class, name_error, type_error, arg
 use Rattle.ruby_meaning.specs.Store.{class_cells, method_cells, name_cells, environment_cells, array_cells, hash_cells, range_cells, new_object, has_name, with_name, kind_at, class_at, class_name, is_class_or_module, is_a, is_one_of, name_of_class_of, with_pairs}
 use Rattle.ruby_meaning.specs.Locals.{place_of, locals_of}
 use Rattle.ruby_meaning.specs.Constants.{own_constant, innermost, name_behind, constant_around, constant_behind, missing_constant}
-use Rattle.ruby_meaning.specs.World.{Environment, Home, in_file, in_method, in_class, Given, World, Frame, to_loop, to_call, Done, Break, Return, Run, text_of}
+use Rattle.ruby_meaning.specs.World.{Home, in_file, in_method, in_class, Given, World, Frame, to_loop, to_call, Break, Return, Run, text_of}
 use Rattle.ruby_meaning.specs.Steps.{changing, with_object, make}
 use Rattle.ruby_meaning.specs.Calls.{all_nil, next_environment}
 use Rattle.ruby_meaning.specs.Definitions.{holder, set_local_in, set_local, fixed_global, with_global, name_cost, set_global_if, with_constant, set_constant, set_goal, set_goals, constant_found, class_number, behind_class, path_from, path_around, code_of, with_row, with_class_row, define_on, define_method}
-use Rattle.ruby_meaning.specs.ClassBodies.{is_class_kind, is_module_kind, class_alone, module_alone, same_class, class_frame, open_class, make_class, not_a, open_found, class_or_new, module_or_new, unless_closed, if_same_superclass, below_base, with_base, class_below, class_named, module_of_name}
+use Rattle.ruby_meaning.specs.ClassBodies.{is_class_kind, is_module_kind, class_alone, module_alone, same_class, class_frame, open_class, make_class, not_a, open_found, class_or_new, module_or_new, if_same_superclass, below_base, with_base, class_below, class_named, module_of_name}
 use Rattle.ruby_meaning.specs.Parts.{make_array, make_hash, no_range, range_to, make_range, piece_found, piece_of, of_values, unexpected_return, leave_from, leave_home, no_break, leave_block, leave_loop, given_of, wrong_block, given_found, given_value, match_found, match_class}
-use Rattle.ruby_meaning.specs.ClassGraph.{number_if, above_in, StoreLeads}
+use Rattle.ruby_meaning.specs.ClassGraph.{number_if, StoreLeads}
 use Rattle.ruby_meaning.specs.Placed.{home_of, IsPlaced}
-use Rattle.ruby_meaning.specs.Stored.{IsClass, AreClasses, IsStored, FrameFits}
+use Rattle.ruby_meaning.specs.Stored.{IsClass, AreClasses, IsStored, StoredOut}
 use Rattle.ruby_meaning.proofs.StoreLeading.{store_behind, stays_class}
-use Rattle.ruby_meaning.proofs.StoredStores.{classes_on, keeps_behind, keeps_method, keeps_class_method, keeps_constants}
-use Rattle.ruby_meaning.proofs.StoredSteps.{Known, with_class, KeepsOut, Keeps, Moves, moves_objects, moves_same, out_on, keep_stay, keep_done, keep_then, keep_reading, keep_read, keep_changing, keep_choose, keep_charge, keep_make, keep_make_string, keep_raise_new, keep_deeper, class_out}
+use Rattle.ruby_meaning.proofs.StoredStores.{keeps_behind, keeps_method, keeps_class_method, keeps_constants}
+use Rattle.ruby_meaning.proofs.StoredSteps.{Known, with_class, Keeps, Moves, moves_objects, moves_same, out_on, keep_stay, keep_done, keep_then, keep_reading, keep_read, keep_changing, keep_choose, keep_charge, keep_make, keep_make_string, keep_raise_new, keep_deeper, class_out}
 use Rattle.ruby_meaning.proofs.StoredCalls.{in_frame, keep_entering, keep_opening, keep_set_variable}
 
 -- the innermost class body is one of a class, or there is none and it is Object
@@ -95,7 +94,7 @@ module_is s (symbol_named x) = tt
 
 -- what goes on with a number that is read, of which it is known that it is a class's
 module _ (k : Known) (c : Around) where
-  number_out : (go : Option ℕ → Run) → Keeps k c (go None) → ((n : ℕ) → Keeps (with_class k n) c (go (Some n))) → (o : Option ℕ) (w : World) → NumberIs w.objects o → k.holds w.objects → IsStored w → KeepsOut c w (go o w)
+  number_out : (go : Option ℕ → Run) → Keeps k c (go None) → ((n : ℕ) → Keeps (with_class k n) c (go (Some n))) → (o : Option ℕ) (w : World) → NumberIs w.objects o → k.holds w.objects → IsStored w → StoredOut c w (go o w)
   number_out go h hs None w is p s = h.by w p s
   number_out go h hs (Some n) w is p s = (hs n).by w (p, is) s
 
@@ -192,7 +191,7 @@ module _ (k : Known) (c : Around) (frame : Frame) (has : (s : Objects) → k.hol
     over s (Some n) is p i = subst (IsClass s) (sym (only p n (nat_eq p n) refl i)) is
 
     made_out : (name : Bytes) (m : Bool) (base : Option ℕ) (w : World) → NumberIs w.objects base → k.holds w.objects → IsStored w →
-        KeepsOut c w (make (made name m base) (λ n. changing (with_constant (innermost frame.code.classes) x (object n)) (go n)) w)
+        StoredOut c w (make (made name m base) (λ n. changing (with_constant (innermost frame.code.classes) x (object n)) (go n)) w)
     made_out name m base w is p s =
         let o : Object = made name m base in
         let n : ℕ = length w.objects in

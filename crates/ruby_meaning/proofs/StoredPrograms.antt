@@ -1,27 +1,26 @@
 -- The plain run as a whole over placed files: its world is stored, and it ends as a program does.
-use Rattle.std.proofs.Common.{◌≡◌, ℕ, zero, suc, ◌+◌, ◌<◌, Bool, true, false, refl, arith, List, [], ◌∷◌, ◌++◌, map, length, Option, Some, None}
+use Rattle.std.proofs.Common.{◌≡◌, ℕ, zero, suc, ◌+◌, Bool, true, false, refl, arith, List, [], ◌∷◌, ◌++◌, map, length, Option, Some, None}
 use Rattle.std.specs.Prelude.{filter_map}
 use Rattle.ruby_tree.specs.Names.{Bytes}
 use Rattle.ruby_tree.specs.Tree.{Tree}
-use Rattle.ruby_tree.specs.Placement.{Around, at_home, file}
+use Rattle.ruby_tree.specs.Placement.{at_home, file}
 use Rattle.ruby_meaning.specs.NativeName.{Native}
 use Rattle.ruby_meaning.specs.Value.{MethodRow, plain, elements, Objects}
 use Rattle.ruby_meaning.specs.Numbers.{object_class}
 use Rattle.ruby_meaning.specs.Natives.{native_rows}
 use Rattle.ruby_meaning.specs.Store.{class_in, class_at, new_object, new_string, Place}
-use Rattle.ruby_meaning.specs.World.{World, Frame, Outcome, Done, Raise, Break, Next, Return, Retry, Spent, Full, Run, world_of}
+use Rattle.ruby_meaning.specs.World.{Outcome, Done, Raise, Break, Next, Return, Retry, Spent, Full, world_of}
 use Rattle.ruby_meaning.specs.Files.{Files}
-use Rattle.ruby_meaning.specs.Evaluation.{run, eval, evaluate}
+use Rattle.ruby_meaning.specs.Evaluation.{eval}
 use Rattle.ruby_meaning.specs.RunLaws.{EndsOutside}
-use Rattle.ruby_meaning.specs.PlainRun.{StartClass, numbers_from, is_rows_of, is_class_rows_of, row_if, row_here, class_row_here, start_class, start_classes, start_objects, start_store, start_world, start_cells, top_frame, with_turns, Program, program_run}
+use Rattle.ruby_meaning.specs.PlainRun.{StartClass, numbers_from, is_rows_of, is_class_rows_of, row_if, row_here, class_row_here, start_classes, start_objects, start_store, start_world, start_cells, top_frame, with_turns, Program, program_run}
 use Rattle.ruby_meaning.specs.Placed.{IsPlaced}
-use Rattle.ruby_meaning.specs.Stored.{RowsStored, ClassStored, AllStored, IsStored, FrameFits, PlacedOut, ArePlaced, EndsAsProgram}
+use Rattle.ruby_meaning.specs.Stored.{RowsStored, ClassStored, IsStored, PlacedOut, ArePlaced, EndsAsProgram, StoredOut}
 use Rattle.ruby_meaning.proofs.ClassGraph.{start_graph}
 use Rattle.ruby_meaning.proofs.Ends.{program_ends}
-use Rattle.ruby_meaning.proofs.StoredSteps.{nothing, KeepsOut, Keeps, moves_same, keep_then, keep_changing, keep_charge}
-use Rattle.ruby_meaning.proofs.StoredCalls.{in_frame, Bodies}
+use Rattle.ruby_meaning.proofs.StoredSteps.{nothing, Keeps, moves_same, keep_then, keep_changing, keep_charge}
 use Rattle.ruby_meaning.proofs.StoredLoads.{keep_code, keep_load_ruby}
-use Rattle.ruby_meaning.proofs.StoredTrees.{keep_run, keep_eval, keep_evaluate}
+use Rattle.ruby_meaning.proofs.StoredTrees.{keep_eval}
 
 -- The world of the start.
 
@@ -95,7 +94,7 @@ program_keeps files are prelude placed p =
     keep_changing nothing (at_home file) (with_turns p.turns) _ (λ w q s. moves_same w (with_turns p.turns w) refl refl s)
     (keep_load_ruby nothing (at_home file) files are (eval files p.turns) (keep_eval files are p.turns) top_frame 0 p.file)))
 
-program_out : (files : Files) → ArePlaced files → (prelude : Tree) → IsPlaced (at_home file) prelude → (p : Program) → KeepsOut (at_home file) (start_world p) (program_run files prelude p (start_world p))
+program_out : (files : Files) → ArePlaced files → (prelude : Tree) → IsPlaced (at_home file) prelude → (p : Program) → StoredOut (at_home file) (start_world p) (program_run files prelude p (start_world p))
 program_out files are prelude placed p = (program_keeps files are prelude placed p).by (start_world p) tt (start_stored p)
 
 pub program_stored : (files : Files) → ArePlaced files → (prelude : Tree) → IsPlaced (at_home file) prelude → (p : Program) → IsStored (world_of (program_run files prelude p (start_world p)))

@@ -1,16 +1,16 @@
 -- One run from a stored world ends in one, and its outcome is placed: what each small step needs.
-use Rattle.std.proofs.Common.{◌≡◌, ℕ, zero, suc, ◌+◌, ◌<◌, ◌≤◌, Bool, true, false, refl, sym, subst, ap, ◌∙◌, arith, List, [], ◌∷◌, ◌++◌, length, Option, Some, None}
+use Rattle.std.proofs.Common.{◌≡◌, ℕ, zero, suc, ◌+◌, ◌<◌, ◌≤◌, Bool, true, false, refl, sym, subst, ap, ◌∙◌, arith, length}
 use Rattle.std.specs.Prelude.{codes, nat_eq, nat_le, nat_lt}
 use Rattle.ruby_tree.specs.Names.{Bytes}
 use Rattle.ruby_tree.specs.Placement.{Around, in_loop, in_clause, outside_clause}
 use Rattle.ruby_meaning.specs.Value.{Value, nil, object, Object, Objects}
 use Rattle.ruby_meaning.specs.Numbers.{features, system_stack_error}
-use Rattle.ruby_meaning.specs.Store.{cell_limit, string_cells, object_cells, variable_cells, new_string, is_class_or_module, kind_at}
+use Rattle.ruby_meaning.specs.Store.{cell_limit, string_cells, object_cells, variable_cells, new_string, is_class_or_module}
 use Rattle.ruby_meaning.specs.World.{World, Frame, Target, to_loop, to_call, Outcome, Done, Raise, Break, Next, Return, Retry, Spent, Full, Run, world_of, frame_limit}
 use Rattle.ruby_meaning.specs.Steps.{then_do, then, reading, changing, choose, paid_from, pay, charged, charge, with_object, make, make_string, raise_new, exception_of, stand, ended, at_depth, deeper_if, deeper, if_here, returned, gone_on, is_call, broken, loop_left, after_turn, rescued, retried, finished}
 use Rattle.ruby_meaning.specs.Evaluation.{goes_on, loop, loop_from, rescuing}
 use Rattle.ruby_meaning.specs.ClassGraph.{StoreLeads}
-use Rattle.ruby_meaning.specs.Stored.{IsClass, ClosuresStored, IsStored, PlacedOut}
+use Rattle.ruby_meaning.specs.Stored.{IsClass, ClosuresStored, IsStored, PlacedOut, StoredOut}
 use Rattle.ruby_meaning.proofs.StoreLeading.{store_same, store_on, stays_class}
 use Rattle.ruby_meaning.proofs.StoredStores.{closures_on, StoreKeeps, keeps_same, keeps_made}
 
@@ -27,14 +27,9 @@ nothing = record { holds = λ s. Unit {0}; stays = λ s t l h. tt }
 abbrev pub with_class : Known → ℕ → Known
 with_class k n = record { holds = λ s. k.holds s × IsClass s n; stays = λ s t l h. (k.stays s t l h.0, stays_class s t n l h.1) }
 
--- the outcome of a run from a world, where the placement is this
-pub record KeepsOut (c : Around) (w : World) (o : Outcome) : Type 0 where
-  pub leads : StoreLeads w.objects (world_of o).objects
-  pub stored : IsStored (world_of o)
-  pub placed : PlacedOut c o
-
+-- from each stored world of which this is known
 pub record Keeps (k : Known) (c : Around) (m : Run) : Type 0 where
-  pub by : (w : World) → k.holds w.objects → IsStored w → KeepsOut c w (m w)
+  pub by : (w : World) → k.holds w.objects → IsStored w → StoredOut c w (m w)
 
 -- a world after a change
 pub record Moves (w z : World) : Type 0 where
@@ -65,11 +60,11 @@ moves_objects w z l same s = record {
 pub moves_same : (w z : World) → z.objects ≡ w.objects → z.closures ≡ w.closures → IsStored w → Moves w z
 moves_same w z e same s = moves_objects w z (subst (λ t. StoreKeeps w.objects t) (sym e) (keeps_same w.objects)) same s
 
-pub out_on : (c : Around) (w z : World) (o : Outcome) → StoreLeads w.objects z.objects → KeepsOut c z o → KeepsOut c w o
+pub out_on : (c : Around) (w z : World) (o : Outcome) → StoreLeads w.objects z.objects → StoredOut c z o → StoredOut c w o
 out_on c w z o l x = record { leads = store_on w.objects z.objects (world_of o).objects l x.leads; stored = x.stored; placed = x.placed }
 
 -- the world alone, whatever the outcome's placement
-out_as : (c d : Around) (w : World) (o p : Outcome) → world_of p ≡ world_of o → PlacedOut d p → KeepsOut c w o → KeepsOut d w p
+out_as : (c d : Around) (w : World) (o p : Outcome) → world_of p ≡ world_of o → PlacedOut d p → StoredOut c w o → StoredOut d w p
 out_as c d w o p same placed x = record { leads = subst (λ z. StoreLeads w.objects z.objects) (sym same) x.leads; stored = subst IsStored (sym same) x.stored; placed = placed }
 
 module _ (k : Known) (c : Around) where
@@ -82,7 +77,7 @@ module _ (k : Known) (c : Around) where
   pub keep_raise : (v : Value) → Keeps k c (Raise v)
   keep_raise v = keep_stay (Raise v) (λ w. refl) (λ w. tt)
 
-  then_out : (w : World) (o : Outcome) (go : Value → Run) → ((v : Value) → Keeps k c (go v)) → k.holds w.objects → KeepsOut c w o → KeepsOut c w (then_do o go)
+  then_out : (w : World) (o : Outcome) (go : Value → Run) → ((v : Value) → Keeps k c (go v)) → k.holds w.objects → StoredOut c w o → StoredOut c w (then_do o go)
   then_out w (Done v z) go h p x = out_on c w z (go v z) x.leads ((h v).by z (k.stays w.objects z.objects x.leads p) x.stored)
   then_out w (Raise v z) go h p x = x
   then_out w (Break t v z) go h p x = x
@@ -99,7 +94,7 @@ module _ (k : Known) (c : Around) where
   keep_reading r go h = record { by = λ w p s. (h (r w)).by w p s }
 
   -- with what is known of what was read
-  pub keep_read : {A : Type 0} (r : World → A) (go : A → Run) → ((w : World) → k.holds w.objects → IsStored w → KeepsOut c w (go (r w) w)) → Keeps k c (reading r go)
+  pub keep_read : {A : Type 0} (r : World → A) (go : A → Run) → ((w : World) → k.holds w.objects → IsStored w → StoredOut c w (go (r w) w)) → Keeps k c (reading r go)
   keep_read r go h = record { by = h }
 
   pub keep_changing : (f : World → World) (go : Run) → ((w : World) → k.holds w.objects → IsStored w → Moves w (f w)) → Keeps k c go → Keeps k c (changing f go)
@@ -118,7 +113,7 @@ module _ (k : Known) (c : Around) where
   keep_chosen true m a h g = h refl
   keep_chosen false m a h g = g
 
-  paid_out : (turns : ℕ) (w : World) (go : Run) → Keeps k c go → k.holds w.objects → IsStored w → KeepsOut c w (paid_from turns w go)
+  paid_out : (turns : ℕ) (w : World) (go : Run) → Keeps k c go → k.holds w.objects → IsStored w → StoredOut c w (paid_from turns w go)
   paid_out zero w go h p s = record { leads = store_same w.objects; stored = s; placed = tt }
   paid_out (suc n) w go h p s =
       let z : World = record w { turns = n } in
@@ -128,7 +123,7 @@ module _ (k : Known) (c : Around) where
   pub keep_pay : (go : Run) → Keeps k c go → Keeps k c (pay go)
   keep_pay go h = record { by = λ w p s. paid_out w.turns w go h p s }
 
-  charged_out : (t : Bool) (n : ℕ) (w : World) (go : Run) → Keeps k c go → k.holds w.objects → IsStored w → KeepsOut c w (charged t n w go)
+  charged_out : (t : Bool) (n : ℕ) (w : World) (go : Run) → Keeps k c go → k.holds w.objects → IsStored w → StoredOut c w (charged t n w go)
   charged_out true n w go h p s =
       let z : World = record w { cells = w.cells + n } in
       let x : Moves w z = moves_same w z refl refl s in
@@ -151,7 +146,7 @@ module _ (k : Known) (c : Around) where
       (keep_make (new_string message) _ refl (λ i. keep_make (exception_of n i (stand frame line)) _ refl (λ m. keep_raise (object m))))
 
   -- A change of the world behind a run, which keeps its objects and closures.
-  ended_out : (f : World → World) → ((z : World) → (f z).objects ≡ z.objects) → ((z : World) → (f z).closures ≡ z.closures) → (w : World) (o : Outcome) → KeepsOut c w o → KeepsOut c w (ended f o)
+  ended_out : (f : World → World) → ((z : World) → (f z).objects ≡ z.objects) → ((z : World) → (f z).closures ≡ z.closures) → (w : World) (o : Outcome) → StoredOut c w o → StoredOut c w (ended f o)
   ended_out f objects closures w o x = record { leads = subst (λ t. StoreLeads w.objects t) (sym (at o)) x.leads; stored = subst IsStored (sym (world o)) (moves_same (world_of o) (f (world_of o)) (objects (world_of o)) (closures (world_of o)) x.stored).stored; placed = placed o x.placed }
     where
       world : (o : Outcome) → world_of (ended f o) ≡ f (world_of o)
@@ -183,7 +178,7 @@ module _ (k : Known) (c : Around) where
   keep_between f g m fo fc go gc h = record {
     by = λ w p s.
         let x : Moves w (f w) = moves_same w (f w) (fo w) (fc w) s in
-        let y : KeepsOut c (f w) (m (f w)) = h.by (f w) (k.stays w.objects (f w).objects x.leads p) x.stored in
+        let y : StoredOut c (f w) (m (f w)) = h.by (f w) (k.stays w.objects (f w).objects x.leads p) x.stored in
         out_on c w (f w) (ended (g w) (m (f w))) x.leads (ended_out (g w) (go w) (gc w) (f w) (m (f w)) y);
   }
 
@@ -219,7 +214,7 @@ not_both : (b : Bool) → b ≡ true → b ≡ false → ⊥
 not_both true h k = absurd (cc)
 not_both false h k = absurd (cc)
 
-pub returned_out : (c d : Around) (n : ℕ) (w : World) (o : Outcome) → NoNext d → NoRetry d → KeepsOut d w o → KeepsOut c w (returned n o)
+pub returned_out : (c d : Around) (n : ℕ) (w : World) (o : Outcome) → NoNext d → NoRetry d → StoredOut d w o → StoredOut c w (returned n o)
 returned_out c d n w (Done v z) next retry x = out_as d c w (Done v z) (Done v z) refl tt x
 returned_out c d n w (Raise v z) next retry x = out_as d c w (Raise v z) (Raise v z) refl tt x
 returned_out c d n w (Break t v z) next retry x = out_as d c w (Break t v z) (Break t v z) refl tt x
@@ -230,7 +225,7 @@ returned_out c d n w (Spent z) next retry x = out_as d c w (Spent z) (Spent z) r
 returned_out c d n w (Full z) next retry x = out_as d c w (Full z) (Full z) refl tt x
 
 -- the outcome of a class body
-pub class_out : (c d : Around) (w : World) (o : Outcome) → NoNext d → NoRetry d → KeepsOut d w o → KeepsOut c w o
+pub class_out : (c d : Around) (w : World) (o : Outcome) → NoNext d → NoRetry d → StoredOut d w o → StoredOut c w o
 class_out c d w (Done v z) next retry x = out_as d c w (Done v z) (Done v z) refl tt x
 class_out c d w (Raise v z) next retry x = out_as d c w (Raise v z) (Raise v z) refl tt x
 class_out c d w (Break t v z) next retry x = out_as d c w (Break t v z) (Break t v z) refl tt x
@@ -240,7 +235,7 @@ class_out c d w (Retry z) next retry x = absurd (not_both d.clause x.placed retr
 class_out c d w (Spent z) next retry x = out_as d c w (Spent z) (Spent z) refl tt x
 class_out c d w (Full z) next retry x = out_as d c w (Full z) (Full z) refl tt x
 
-pub gone_on_out : (c d : Around) (w : World) (o : Outcome) → NoRetry d → KeepsOut d w o → KeepsOut c w (gone_on o)
+pub gone_on_out : (c d : Around) (w : World) (o : Outcome) → NoRetry d → StoredOut d w o → StoredOut c w (gone_on o)
 gone_on_out c d w (Done v z) retry x = out_as d c w (Done v z) (Done v z) refl tt x
 gone_on_out c d w (Raise v z) retry x = out_as d c w (Raise v z) (Raise v z) refl tt x
 gone_on_out c d w (Break t v z) retry x = out_as d c w (Break t v z) (Break t v z) refl tt x
@@ -250,7 +245,7 @@ gone_on_out c d w (Retry z) retry x = absurd (not_both d.clause x.placed retry)
 gone_on_out c d w (Spent z) retry x = out_as d c w (Spent z) (Spent z) refl tt x
 gone_on_out c d w (Full z) retry x = out_as d c w (Full z) (Full z) refl tt x
 
-pub broken_out : (c : Around) (n : ℕ) (w : World) (o : Outcome) → KeepsOut c w o → KeepsOut c w (broken n o)
+pub broken_out : (c : Around) (n : ℕ) (w : World) (o : Outcome) → StoredOut c w o → StoredOut c w (broken n o)
 broken_out c n w (Done v z) x = x
 broken_out c n w (Raise v z) x = x
 broken_out c n w (Break t v z) x = out_as c c w (Break t v z) (if_here (is_call n t) (Done v z) (Break t v z)) (here_world (is_call n t) v (Break t v z) z refl) (here_placed c (is_call n t) v z (Break t v z) tt) x
@@ -261,7 +256,7 @@ broken_out c n w (Spent z) x = x
 broken_out c n w (Full z) x = x
 
 -- the outcome of a part that stands outside of a clause
-pub part_out : (c : Around) (w : World) (o : Outcome) → KeepsOut (outside_clause c) w o → KeepsOut c w o
+pub part_out : (c : Around) (w : World) (o : Outcome) → StoredOut (outside_clause c) w o → StoredOut c w o
 part_out c w (Done v z) x = out_as (outside_clause c) c w (Done v z) (Done v z) refl tt x
 part_out c w (Raise v z) x = out_as (outside_clause c) c w (Raise v z) (Raise v z) refl tt x
 part_out c w (Break t v z) x = out_as (outside_clause c) c w (Break t v z) (Break t v z) refl tt x
@@ -274,11 +269,11 @@ part_out c w (Full z) x = out_as (outside_clause c) c w (Full z) (Full z) refl t
 -- Loops, rescues and ensure parts.
 
 module _ (k : Known) (c : Around) where
-  left_out : (w : World) (t : Target) (v : Value) (z : World) → KeepsOut (in_loop c) w (Break t v z) → KeepsOut c w (loop_left t v z)
+  left_out : (w : World) (t : Target) (v : Value) (z : World) → StoredOut (in_loop c) w (Break t v z) → StoredOut c w (loop_left t v z)
   left_out w to_loop v z x = out_as (in_loop c) c w (Break to_loop v z) (Done v z) refl tt x
   left_out w (to_call n) v z x = out_as (in_loop c) c w (Break (to_call n) v z) (Break (to_call n) v z) refl tt x
 
-  turn_out : (w : World) (o : Outcome) (again : Run) → Keeps k c again → k.holds w.objects → KeepsOut (in_loop c) w o → KeepsOut c w (after_turn o again)
+  turn_out : (w : World) (o : Outcome) (again : Run) → Keeps k c again → k.holds w.objects → StoredOut (in_loop c) w o → StoredOut c w (after_turn o again)
   turn_out w (Done v z) again h p x = out_on c w z (again z) x.leads (h.by z (k.stays w.objects z.objects x.leads p) x.stored)
   turn_out w (Raise v z) again h p x = out_as (in_loop c) c w (Raise v z) (Raise v z) refl tt x
   turn_out w (Break t v z) again h p x = left_out w t v z x
@@ -303,7 +298,7 @@ module _ (k : Known) (c : Around) where
   keep_loop_from false fuel u test inner h g = keep_loop fuel u test inner h g
   keep_loop_from true fuel u test inner h g = keep_turn inner (loop fuel u test inner) g (keep_loop fuel u test inner h g)
 
-  retried_out : (w : World) (o : Outcome) (again : Run) → Keeps k c again → k.holds w.objects → KeepsOut (in_clause c) w o → KeepsOut c w (retried o again)
+  retried_out : (w : World) (o : Outcome) (again : Run) → Keeps k c again → k.holds w.objects → StoredOut (in_clause c) w o → StoredOut c w (retried o again)
   retried_out w (Done v z) again h p x = out_as (in_clause c) c w (Done v z) (Done v z) refl tt x
   retried_out w (Raise v z) again h p x = out_as (in_clause c) c w (Raise v z) (Raise v z) refl tt x
   retried_out w (Break t v z) again h p x = out_as (in_clause c) c w (Break t v z) (Break t v z) refl tt x
@@ -313,7 +308,7 @@ module _ (k : Known) (c : Around) where
   retried_out w (Spent z) again h p x = out_as (in_clause c) c w (Spent z) (Spent z) refl tt x
   retried_out w (Full z) again h p x = out_as (in_clause c) c w (Full z) (Full z) refl tt x
 
-  rescued_out : (w : World) (o : Outcome) (clauses last : Value → Run) → ((v : Value) → Keeps k c (clauses v)) → ((v : Value) → Keeps k c (last v)) → k.holds w.objects → KeepsOut c w o → KeepsOut c w (rescued o clauses last)
+  rescued_out : (w : World) (o : Outcome) (clauses last : Value → Run) → ((v : Value) → Keeps k c (clauses v)) → ((v : Value) → Keeps k c (last v)) → k.holds w.objects → StoredOut c w o → StoredOut c w (rescued o clauses last)
   rescued_out w (Done v z) clauses last h g p x = out_on c w z (last v z) x.leads ((g v).by z (k.stays w.objects z.objects x.leads p) x.stored)
   rescued_out w (Raise v z) clauses last h g p x = out_on c w z (clauses v z) x.leads ((h v).by z (k.stays w.objects z.objects x.leads p) x.stored)
   rescued_out w (Break t v z) clauses last h g p x = x
@@ -330,7 +325,7 @@ module _ (k : Known) (c : Around) where
   keep_rescuing zero inner clauses last h g l = record { by = λ w p s. rescued_out w (inner w) _ last (keep_clauses clauses Spent g keep_spent) l p (h.by w p s) }
   keep_rescuing (suc fuel) inner clauses last h g l = record { by = λ w p s. rescued_out w (inner w) _ last (keep_clauses clauses _ g (keep_rescuing fuel inner clauses last h g l)) l p (h.by w p s) }
 
-  finished_out : (w : World) (o : Outcome) (last : Run) → Keeps k c last → k.holds w.objects → KeepsOut c w o → KeepsOut c w (finished o last)
+  finished_out : (w : World) (o : Outcome) (last : Run) → Keeps k c last → k.holds w.objects → StoredOut c w o → StoredOut c w (finished o last)
   finished_out w (Done v z) last h p x = out_on c w z _ x.leads ((keep_then k c last (λ ignored. Done v) h (λ u. keep_stay k c (Done v) (λ y. refl) (λ y. tt))).by z (k.stays w.objects z.objects x.leads p) x.stored)
   finished_out w (Raise v z) last h p x = out_on c w z _ x.leads ((keep_then k c last (λ ignored. Raise v) h (λ u. keep_stay k c (Raise v) (λ y. refl) (λ y. tt))).by z (k.stays w.objects z.objects x.leads p) x.stored)
   finished_out w (Break t v z) last h p x = out_on c w z _ x.leads ((keep_then k c last (λ ignored. Break t v) h (λ u. keep_stay k c (Break t v) (λ y. refl) (λ y. tt))).by z (k.stays w.objects z.objects x.leads p) x.stored)

@@ -1,5 +1,5 @@
 -- What changes of the store keep of the code that is stored in it.
-use Rattle.std.proofs.Common.{◌≡◌, ◌⊎◌, inl, inr, ℕ, zero, suc, Bool, true, false, refl, sym, subst, ap, ◌∙◌, List, [], ◌∷◌, ◌++◌, length, Option}
+use Rattle.std.proofs.Common.{◌≡◌, ◌⊎◌, inl, inr, ℕ, true, false, refl, sym, subst, List, [], ◌∷◌, ◌++◌, length, Option}
 use Rattle.std.proofs.lemmas.Bool.{false≢true}
 use Rattle.ruby_tree.specs.Names.{Bytes}
 use Rattle.ruby_meaning.specs.Value.{Value, Code, MethodBody, written, native, reader, writer, MethodRow, Class, Kind, string, elements, table, span, closed, plain, class_or_module, Object, Objects}
@@ -10,7 +10,7 @@ use Rattle.ruby_meaning.specs.ClassGraph.{StoreLeads}
 use Rattle.ruby_meaning.specs.Stored.{IsClass, AreClasses, CodeStored, BodyStored, RowsStored, ClassStored, AllStored, ClosureStored, ClosuresStored}
 use Rattle.ruby_meaning.proofs.ClassGraph.{kind_with, kind_behind}
 use Rattle.ruby_meaning.proofs.NativeStores.{is_attribute, KeepsStores}
-use Rattle.ruby_meaning.proofs.StoreLeading.{store_same, store_on, store_with_kind, store_with_method, store_with_class_method, store_with_constants, store_with_module, store_frozen, kind_frozen, store_with_variables, kind_variables, store_thrown, kind_thrown, store_made, store_behind, stays_class, natives_lead}
+use Rattle.ruby_meaning.proofs.StoreLeading.{store_same, store_on, store_with_method, store_with_class_method, store_with_constants, store_with_module, store_frozen, kind_frozen, store_with_variables, kind_variables, store_thrown, kind_thrown, store_made, stays_class, natives_lead}
 
 -- What leads to a later store keeps what is stored.
 

@@ -1,6 +1,6 @@
 -- The evaluation of placed trees as a whole, from a stored world.
-use Rattle.std.proofs.Common.{◌≡◌, ℕ, zero, suc, pred, Bool, true, false, refl, sym, subst, ap, ◌∙◌, List, [], ◌∷◌, ◌++◌, map, length, Option, Some, None}
-use Rattle.std.specs.Prelude.{codes, not, ◌||◌, is_some}
+use Rattle.std.proofs.Common.{◌≡◌, ℕ, zero, suc, pred, Bool, true, false, refl, sym, List, [], ◌∷◌, ◌++◌, map, length, Option, Some, None}
+use Rattle.std.specs.Prelude.{codes, not}
 use Rattle.std.proofs.lemmas.Bool.{false≢true}
 use Rattle.bs_outside.specs.Paths.{parent_of}
 use Rattle.ruby_tree.specs.Names.{Bytes}
@@ -12,18 +12,18 @@ use Rattle.ruby_meaning.specs.Numbers.{object_class}
 use Rattle.ruby_meaning.specs.Store.{is_true, places_for}
 use Rattle.ruby_meaning.specs.Locals.{params_of, names_of_params}
 use Rattle.ruby_meaning.specs.World.{Given, no_block, literal_block, Closure, Running, World, Frame, Next, Retry, Spent, Run}
-use Rattle.ruby_meaning.specs.Calls.{enter, spread, variable_of}
+use Rattle.ruby_meaning.specs.Calls.{spread, variable_of}
 use Rattle.ruby_meaning.specs.Files.{Files}
 use Rattle.ruby_meaning.specs.Invoke.{run_if_found, send_to}
 use Rattle.ruby_meaning.specs.Definitions.{read_local, set_local, read_global, closure_here, with_closure}
 use Rattle.ruby_meaning.specs.Parts.{parts_of, super_found, places_behind, in_loop_of, in_sequence, handling}
-use Rattle.ruby_meaning.specs.Evaluation.{unless_nil, is_given_one, set_exception, with_literal, with_block, send_with, super_with, super_to, set_by_send, run, run_form, run_all, run_trees, run_other, run_last, run_receiver, run_given_value, run_path, run_class, run_pairs, run_pieces, run_whens, run_patterns, run_tests, run_any, run_clauses, run_clause, run_classes, run_defaults, eval, evaluate}
+use Rattle.ruby_meaning.specs.Evaluation.{unless_nil, is_given_one, set_exception, with_block, send_with, super_with, super_to, set_by_send, run, run_form, run_all, run_trees, run_other, run_last, run_receiver, run_given_value, run_path, run_class, run_pairs, run_pieces, run_whens, run_patterns, run_tests, run_any, run_clauses, run_clause, run_classes, run_defaults, eval, evaluate}
 use Rattle.ruby_meaning.specs.Placed.{IsPlaced, FormPlaced, TreesPlaced, OtherPlaced, PairsPlaced, PiecesPlaced, WhensPlaced, ClausesPlaced, ParamsPlaced}
-use Rattle.ruby_meaning.specs.Stored.{AreClasses, ClosureStored, ClosuresStored, IsStored, FrameFits, PlacedOut, ArePlaced}
+use Rattle.ruby_meaning.specs.Stored.{AreClasses, ClosureStored, ClosuresStored, IsStored, FrameFits, ArePlaced, StaysStored}
 use Rattle.ruby_meaning.proofs.StoreLeading.{store_same}
 use Rattle.ruby_meaning.proofs.StoredStores.{keeps_same}
-use Rattle.ruby_meaning.proofs.StoredSteps.{Known, with_class, KeepsOut, Keeps, Moves, moves_same, stored_on, keep_stay, keep_done, keep_raise, keep_then, keep_reading, keep_read, keep_changing, keep_choose, keep_pay, keep_make_string, keep_known, broken_out, part_out, keep_loop_from, keep_rescuing, keep_finished}
-use Rattle.ruby_meaning.proofs.StoredCalls.{in_frame, Bodies, FoundStored, find_stored, keep_entering, keep_no_method, keep_given}
+use Rattle.ruby_meaning.proofs.StoredSteps.{Known, with_class, Keeps, Moves, moves_same, stored_on, keep_stay, keep_done, keep_raise, keep_then, keep_reading, keep_read, keep_changing, keep_choose, keep_make_string, keep_known, broken_out, part_out, keep_loop_from, keep_rescuing, keep_finished}
+use Rattle.ruby_meaning.proofs.StoredCalls.{in_frame, Bodies, find_stored, keep_entering, keep_no_method, keep_given}
 use Rattle.ruby_meaning.proofs.StoredLoads.{if_found_out, keep_call, keep_send}
 use Rattle.ruby_meaning.proofs.StoredParts.{moves_local, keep_set_goal, keep_set_goals, keep_path_from, keep_path_around, keep_define_method, keep_open_class, keep_class_below, keep_class_named, keep_module_named, keep_make_array, keep_make_hash, keep_make_range, keep_piece, keep_values, keep_leave_home, keep_leave_loop, keep_given_value, keep_match}
 
@@ -303,3 +303,11 @@ keep_eval files are (suc fuel) d t frame placed = keep_run files are (suc fuel) 
 
 pub keep_evaluate : (files : Files) → ArePlaced files → Bodies (evaluate files)
 keep_evaluate files are d t frame placed = record { by = λ w p s. (keep_eval files are w.turns d t frame placed).by w p s }
+
+-- As the laws say it.
+
+pub run_stays : (files : Files) → ArePlaced files → (fuel : ℕ) (b : Tree → Frame → Run) → StaysStored b → StaysStored (run files fuel b)
+run_stays files are fuel b h c t frame w placed fits s = (keep_run files are fuel b (λ d u inner p. record { by = λ z q y. h d u inner z p q y }) c t frame placed).by w fits s
+
+pub evaluate_stays : (files : Files) → ArePlaced files → StaysStored (evaluate files)
+evaluate_stays files are c t frame w placed fits s = (keep_evaluate files are c t frame placed).by w fits s

@@ -1,16 +1,16 @@
 -- What a world holds that a run of placed trees can reach: a graph of classes, code whose trees are placed and whose classes are classes; and
 -- the frames and outcomes that fit such a tree.
-use Rattle.std.specs.Prelude.{◌≡◌, ℕ, ◌<◌, Bool, true, false, ◌||◌, List, [], ◌∷◌, length, Option, Some, None, is_some, ⊤}
+use Rattle.std.specs.Prelude.{◌≡◌, ℕ, ◌<◌, true, false, ◌||◌, List, [], ◌∷◌, length, Option, Some, is_some, ⊤}
 use Rattle.ruby_tree.specs.Names.{Bytes}
 use Rattle.ruby_tree.specs.Tree.{Tree}
 use Rattle.ruby_tree.specs.Placement.{Around, at_home, in_block}
 use Rattle.ruby_tree.specs.Placement as placement
-use Rattle.ruby_meaning.specs.Value.{Value, Code, MethodBody, written, native, reader, writer, MethodRow, Class, Objects}
+use Rattle.ruby_meaning.specs.Value.{Code, MethodBody, written, native, reader, writer, MethodRow, Class, Objects}
 use Rattle.ruby_meaning.specs.Numbers.{object_class, features}
 use Rattle.ruby_meaning.specs.Store.{kind_at, class_at, is_class_or_module}
-use Rattle.ruby_meaning.specs.World.{Home, in_file, in_method, in_class, Running, Closure, World, Frame, Outcome, Done, Raise, Break, Next, Return, Retry, Spent, Full}
+use Rattle.ruby_meaning.specs.World.{Home, in_file, in_method, in_class, Running, Closure, World, Frame, Outcome, Done, Raise, Break, Next, Return, Retry, Spent, Full, Run, world_of}
 use Rattle.ruby_meaning.specs.Files.{Files, ruby_tree}
-use Rattle.ruby_meaning.specs.ClassGraph.{IsGraph}
+use Rattle.ruby_meaning.specs.ClassGraph.{IsGraph, StoreLeads}
 use Rattle.ruby_meaning.specs.Placed.{home_of, IsPlaced}
 
 -- Numbers of classes.
@@ -94,6 +94,16 @@ PlacedOut c (Return n v w) = ⊤
 PlacedOut c (Retry w) = c.clause ≡ true
 PlacedOut c (Spent w) = ⊤
 PlacedOut c (Full w) = ⊤
+
+-- What holds of the outcome of a run from a stored world: its world is stored, and what was known of classes stays; and the outcome is placed.
+pub record StoredOut (c : Around) (w : World) (o : Outcome) : Type 0 where
+  pub leads : StoreLeads w.objects (world_of o).objects
+  pub stored : IsStored (world_of o)
+  pub placed : PlacedOut c o
+
+-- So it is for each placed tree in a frame that fits, from each stored world.
+abbrev pub StaysStored : (Tree → Frame → Run) → Type 0
+StaysStored b = (c : Around) (t : Tree) (frame : Frame) (w : World) → IsPlaced c t → FrameFits c frame w.objects → IsStored w → StoredOut c w (b t frame w)
 
 -- what each Ruby file is read as is placed
 abbrev pub ArePlaced : Files → Type 0

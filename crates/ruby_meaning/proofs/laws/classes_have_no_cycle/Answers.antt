@@ -1,0 +1,14 @@
+use Rattle.ruby_meaning.proofs.ClassGraph.{start_graph, enough_steps, enough_superclasses, found_once}
+use Rattle.ruby_meaning.proofs.StoredTrees.{evaluate_stays}
+use Rattle.ruby_meaning.proofs.StoredPrograms.{program_stored}
+use Rattle.ruby_meaning.proofs.laws.classes_have_no_cycle.Goals as goal
+
+pub returns : goal.returns
+returns c = record {
+  start = start_graph;
+  reached = λ files are c t frame w placed fits s. (evaluate_stays files are c t frame w placed fits s).stored;
+  program = λ files prelude p are placed. program_stored files are prelude placed p;
+  steps = enough_steps;
+  superclass_steps = enough_superclasses;
+  searched_once = found_once;
+}
