@@ -34,4 +34,5 @@ pub mod MoreTurns
 pub mod Plans
 pub mod WordRows
 pub mod OneAnswer
+pub mod PlacedFiles
 pub mod TreesOfAnswers

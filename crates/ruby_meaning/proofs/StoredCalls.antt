@@ -22,7 +22,7 @@ use Rattle.ruby_meaning.specs.Steps.{changing, charged, with_objects}
 use Rattle.ruby_meaning.specs.Calls.{is_entered, with_step, with_entry, enter_load, enter, count_of_params, counted, fits, wrong_count, with_rest, proc_of, with_block_param, with_locals, has_block_param, bound, all_nil, with_names, with_environment, next_environment, optional_given, method_frame, block_frame, answered, settable, set_in, first_cost, set_variable, with_variable, block_arguments, no_method, call_fault, call_fault_class}
 use Rattle.ruby_meaning.specs.Blocks.{no_block_given, in_method_frame, run_method, in_block_frame, run_closure, run_block, run_given}
 use Rattle.ruby_meaning.specs.ClassGraph.{StoreLeads}
-use Rattle.ruby_meaning.specs.Placed.{home_of, IsPlaced}
+use Rattle.reference_laws.specs.Placed.{home_of, IsPlaced}
 use Rattle.ruby_meaning.specs.Stored.{CodeStored, BodyStored, RowsStored, AllStored, ClosureStored, ClosuresStored, IsStored, FrameFits, StoredOut}
 use Rattle.ruby_meaning.proofs.NativeStores.{Fine, native_keeps}
 use Rattle.ruby_meaning.proofs.StoreLeading.{store_same}

@@ -7,7 +7,7 @@ use Rattle.ruby_tree.specs.Placement.{Around, is_method, is_class, all_required}
 use Rattle.ruby_tree.specs.Placement as placement
 use Rattle.ruby_meaning.specs.Value.{Objects}
 use Rattle.ruby_meaning.specs.World.{Home, in_file, in_method, in_class, Running, Frame}
-use Rattle.ruby_meaning.specs.Placed.{IsPlaced}
+use Rattle.reference_laws.specs.Placed.{IsPlaced}
 use Rattle.ruby_meaning.specs.Stored.{HomeFits, FrameFits}
 
 first : (a b : Bool) → (a || b) ≡ false → a ≡ false

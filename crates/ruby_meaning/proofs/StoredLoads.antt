@@ -27,7 +27,7 @@ use Rattle.ruby_meaning.specs.Files.{Files, RubyFile, no_ruby, ruby_fault, ruby_
 use Rattle.ruby_meaning.specs.Search.{slash, resolve, Resolved, provided, found_at, missing, missing_name}
 use Rattle.ruby_meaning.specs.Loads.{no_such_file, cannot_load, fault_at, file_code, file_frame, next_load, Making, make_datum, make_all, make_pairs, make_layer, data_loaded, with_feature, push_feature, with_loading, while_loading, load_data, run_code, ruby_loaded, load_ruby, after_load, resolved, ask_for}
 use Rattle.ruby_meaning.specs.Invoke.{first_of, second_of, with_text_found, with_text, written_out, first_line, with_line_taken, line_or_nil, get_line, is_given, thrown, throw_if, closure_of, call_closure, load_named, run_control, run_answer, run_native, run_found, run_if_found, call_method, send_to}
-use Rattle.ruby_meaning.specs.Placed.{IsPlaced}
+use Rattle.reference_laws.specs.Placed.{IsPlaced}
 use Rattle.ruby_meaning.specs.Stored.{BodyStored, IsStored, ArePlaced, StoredOut}
 use Rattle.ruby_meaning.proofs.StoreLeading.{store_with_kind}
 use Rattle.ruby_meaning.proofs.StoredStores.{keeps_kind, keeps_thrown}

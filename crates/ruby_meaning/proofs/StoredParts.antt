@@ -18,7 +18,7 @@ use Rattle.ruby_meaning.specs.Definitions.{holder, set_local_in, set_local, fixe
 use Rattle.ruby_meaning.specs.ClassBodies.{is_class_kind, is_module_kind, class_alone, module_alone, same_class, class_frame, open_class, make_class, not_a, open_found, class_or_new, module_or_new, if_same_superclass, below_base, with_base, class_below, class_named, module_of_name}
 use Rattle.ruby_meaning.specs.Parts.{make_array, make_hash, no_range, range_to, make_range, piece_found, piece_of, of_values, unexpected_return, leave_from, leave_home, no_break, leave_block, leave_loop, given_of, wrong_block, given_found, given_value, match_found, match_class}
 use Rattle.ruby_meaning.specs.ClassGraph.{number_if, StoreLeads}
-use Rattle.ruby_meaning.specs.Placed.{home_of, IsPlaced}
+use Rattle.reference_laws.specs.Placed.{home_of, IsPlaced}
 use Rattle.ruby_meaning.specs.Stored.{IsClass, AreClasses, IsStored, StoredOut}
 use Rattle.ruby_meaning.proofs.StoreLeading.{store_behind, stays_class}
 use Rattle.ruby_meaning.proofs.StoredStores.{keeps_behind, keeps_method, keeps_class_method, keeps_constants}

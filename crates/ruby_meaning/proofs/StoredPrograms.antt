@@ -14,7 +14,7 @@ use Rattle.ruby_meaning.specs.Files.{Files}
 use Rattle.ruby_meaning.specs.Evaluation.{eval}
 use Rattle.ruby_meaning.specs.RunLaws.{EndsOutside}
 use Rattle.ruby_meaning.specs.PlainRun.{StartClass, numbers_from, is_rows_of, is_class_rows_of, row_if, row_here, class_row_here, start_classes, start_objects, start_store, start_world, start_cells, top_frame, with_turns, Program, program_run}
-use Rattle.ruby_meaning.specs.Placed.{IsPlaced}
+use Rattle.reference_laws.specs.Placed.{IsPlaced}
 use Rattle.ruby_meaning.specs.Stored.{RowsStored, ClassStored, IsStored, PlacedOut, ArePlaced, EndsAsProgram, StoredOut}
 use Rattle.ruby_meaning.proofs.ClassGraph.{start_graph}
 use Rattle.ruby_meaning.proofs.Ends.{program_ends}

@@ -18,7 +18,7 @@ use Rattle.ruby_meaning.specs.Invoke.{run_if_found, send_to}
 use Rattle.ruby_meaning.specs.Definitions.{read_local, set_local, read_global, closure_here, with_closure}
 use Rattle.ruby_meaning.specs.Parts.{parts_of, super_found, places_behind, in_loop_of, in_sequence, handling}
 use Rattle.ruby_meaning.specs.Evaluation.{unless_nil, is_given_one, set_exception, with_block, send_with, super_with, super_to, set_by_send, run, run_form, run_all, run_trees, run_other, run_last, run_receiver, run_given_value, run_path, run_class, run_pairs, run_pieces, run_whens, run_patterns, run_tests, run_any, run_clauses, run_clause, run_classes, run_defaults, eval, evaluate}
-use Rattle.ruby_meaning.specs.Placed.{IsPlaced, FormPlaced, TreesPlaced, OtherPlaced, PairsPlaced, PiecesPlaced, WhensPlaced, ClausesPlaced, ParamsPlaced}
+use Rattle.reference_laws.specs.Placed.{IsPlaced, FormPlaced, TreesPlaced, OtherPlaced, PairsPlaced, PiecesPlaced, WhensPlaced, ClausesPlaced, ParamsPlaced}
 use Rattle.ruby_meaning.specs.Stored.{AreClasses, ClosureStored, ClosuresStored, IsStored, FrameFits, ArePlaced, StaysStored}
 use Rattle.ruby_meaning.proofs.StoreLeading.{store_same}
 use Rattle.ruby_meaning.proofs.StoredStores.{keeps_same}

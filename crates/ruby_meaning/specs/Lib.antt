@@ -34,6 +34,5 @@ pub mod WordRows
 pub mod Laws
 pub mod RunLaws
 pub mod ClassGraph
-pub mod Placed
 pub mod Stored
 pub mod Constructs

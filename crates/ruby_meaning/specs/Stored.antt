@@ -11,7 +11,7 @@ use Rattle.ruby_meaning.specs.Store.{kind_at, class_at, is_class_or_module}
 use Rattle.ruby_meaning.specs.World.{Home, in_file, in_method, in_class, Running, Closure, World, Frame, Outcome, Done, Raise, Break, Next, Return, Retry, Spent, Full, Run, world_of}
 use Rattle.ruby_meaning.specs.Files.{Files, ruby_tree}
 use Rattle.ruby_meaning.specs.ClassGraph.{IsGraph, StoreLeads}
-use Rattle.ruby_meaning.specs.Placed.{home_of, IsPlaced}
+use Rattle.reference_laws.specs.Placed.{home_of, IsPlaced}
 
 -- Numbers of classes.
 

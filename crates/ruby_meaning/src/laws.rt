@@ -1,5 +1,6 @@
 //! What holds of every run, over the definitions alone.
 ghost use Rattle.std.specs.Prelude.{◌≡◌, ℕ, ◌+◌, ◌≤◌, ◌<◌, Bool, true, false, ◌||◌, List, [], map, length, is_some};
+ghost use Rattle.bs_outside.specs.SourceTree.{SourceTree, bytes_at};
 ghost use Rattle.ruby_tree.specs.Names.{Bytes};
 ghost use Rattle.ruby_tree.specs.Tree.{SourcePosition, Tree, at, super, bare_super, return_with, break_with, while_loop, rescue, Trees, Other};
 ghost use Rattle.ruby_tree.specs.Placement.{Around, at_home, file};
@@ -10,9 +11,10 @@ ghost use Rattle.ruby_meaning.specs.Files.{Files};
 ghost use Rattle.ruby_meaning.specs.Parts.{in_loop_of, handling};
 ghost use Rattle.ruby_meaning.specs.Evaluation.{run, eval, evaluate, loop, rescuing};
 ghost use Rattle.ruby_meaning.specs.Constructs.{ReadsAsTable, body_of};
-ghost use Rattle.ruby_meaning.specs.PlainRun.{Program, program_run, start_store, start_world, plain_run};
+ghost use Rattle.ruby_meaning.specs.PlainRun.{Program, IsPrelude, prelude_of_text, program_run, start_store, start_world, plain_run};
+ghost use Rattle.ruby_meaning.specs.FilesOf.{DataReader, IsRubyFile, files_of};
 ghost use Rattle.ruby_meaning.specs.ClassGraph.{IsGraph};
-ghost use Rattle.ruby_meaning.specs.Placed.{IsPlaced};
+ghost use Rattle.reference_laws.specs.Placed.{IsPlaced};
 ghost use Rattle.ruby_meaning.specs.Stored.{IsClass, IsStored, FrameFits, PlacedOut, StaysStored, ArePlaced, EndsAsProgram};
 ghost use Rattle.ruby_meaning.specs.RunLaws.{GainsNone, loop_turn, rescue_turn, last_of, Allowed, EndsOutside};
 ghost use Rattle.ruby_meaning.specs.Laws.{Grows, IsSound, EnvironmentsStay, ClosuresStay, given, given_out, IsOver, given_program, HasEnded};
@@ -97,13 +99,16 @@ pub fn runs_end_as_they_may()
 {}
 
 /// A `next` comes only out of a loop's body or a block, and a `retry` only out of a rescue clause:
-/// so the placement of its tree lets them. So a program over placed files ends with a value, an
-/// exception, no turn left or a full store.
+/// so the placement of its tree lets them. What the files of a source tree and the prelude are read
+/// as is placed, so a plain run ends with a value, an exception, no turn left or a full store.
 pub fn outcomes_are_placed()
     // One step, whatever its bodies do where a tree is not placed or a frame does not fit: no such body is reached.
     ensures step { (files : Files) → ArePlaced files → (fuel : ℕ) (b : Tree → Frame → Run) → StaysStored b → StaysStored (run files fuel b) }
     ensures evaluated { (files : Files) → ArePlaced files → (c : Around) (t : Tree) (frame : Frame) (w : World) → IsPlaced c t → FrameFits c frame w.objects → IsStored w → PlacedOut c (evaluate files t frame w) }
     ensures program { (files : Files) (prelude : Tree) (p : Program) → ArePlaced files → IsPlaced (at_home file) prelude → EndsAsProgram (program_run files prelude p (start_world p)) }
+    ensures read { (source : SourceTree) (files : Files) → ((path : Bytes) → IsRubyFile (bytes_at source path) (files.ruby path)) → ArePlaced files }
+    ensures prelude { (t : Tree) → IsPrelude t → IsPlaced (at_home file) t }
+    ensures plain { (reader : DataReader) (source : SourceTree) (p : Program) → EndsAsProgram (program_run (files_of reader source) prelude_of_text p (start_world p)) }
 {}
 
 /// In a frame that fits, a placed `super` has a method that runs, a placed `return` a method or a
@@ -125,6 +130,7 @@ pub fn classes_have_no_cycle()
     ensures start { (p : Program) → IsGraph (start_store p) }
     ensures reached { (files : Files) → ArePlaced files → (c : Around) (t : Tree) (frame : Frame) (w : World) → IsPlaced c t → FrameFits c frame w.objects → IsStored w → IsStored (world_of (evaluate files t frame w)) }
     ensures program { (files : Files) (prelude : Tree) (p : Program) → ArePlaced files → IsPlaced (at_home file) prelude → IsStored (world_of (program_run files prelude p (start_world p))) }
+    ensures plain { (reader : DataReader) (source : SourceTree) (p : Program) → IsStored (world_of (program_run (files_of reader source) prelude_of_text p (start_world p))) }
     ensures steps { (store : Objects) → IsGraph store → (k c : ℕ) → IsClass store c → length store ≤ k → line_of k store c ≡ line_of (length store) store c }
     ensures superclass_steps { (store : Objects) → IsGraph store → (k c : ℕ) → IsClass store c → length store ≤ k → superclasses k store c ≡ superclasses (length store) store c }
     ensures searched_once { (store : Objects) (x : Bytes) (numbers : List ℕ) → find_in store x (map rows_of (each_once numbers)) ≡ find_in store x (map rows_of numbers) }

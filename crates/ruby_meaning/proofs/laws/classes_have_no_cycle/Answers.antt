@@ -1,6 +1,7 @@
 use Rattle.ruby_meaning.proofs.ClassGraph.{start_graph, enough_steps, enough_superclasses, found_once}
 use Rattle.ruby_meaning.proofs.StoredTrees.{evaluate_stays}
 use Rattle.ruby_meaning.proofs.StoredPrograms.{program_stored}
+use Rattle.ruby_meaning.proofs.PlacedFiles.{plain_stored}
 use Rattle.ruby_meaning.proofs.laws.classes_have_no_cycle.Goals as goal
 
 pub returns : goal.returns
@@ -11,4 +12,5 @@ returns c = record {
   steps = enough_steps;
   superclass_steps = enough_superclasses;
   searched_once = found_once;
+  plain = plain_stored;
 }
