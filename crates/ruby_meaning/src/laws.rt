@@ -15,7 +15,7 @@ ghost use Rattle.ruby_meaning.specs.PlainRun.{Program, IsPrelude, prelude_of_tex
 ghost use Rattle.ruby_meaning.specs.FilesOf.{DataReader, IsRubyFile, files_of};
 ghost use Rattle.ruby_meaning.specs.ClassGraph.{IsGraph};
 ghost use Rattle.reference_laws.specs.Placed.{IsPlaced};
-ghost use Rattle.ruby_meaning.specs.Stored.{IsClass, IsStored, FrameFits, PlacedOut, StaysStored, ArePlaced, EndsAsProgram};
+ghost use Rattle.ruby_meaning.specs.Stored.{IsStored, FrameFits, PlacedOut, StaysStored, ArePlaced, EndsAsProgram};
 ghost use Rattle.ruby_meaning.specs.RunLaws.{GainsNone, loop_turn, rescue_turn, last_of, Allowed, EndsOutside};
 ghost use Rattle.ruby_meaning.specs.Laws.{Grows, IsSound, EnvironmentsStay, ClosuresStay, given, given_out, IsOver, given_program, HasEnded};
 
@@ -131,7 +131,7 @@ pub fn classes_have_no_cycle()
     ensures reached { (files : Files) → ArePlaced files → (c : Around) (t : Tree) (frame : Frame) (w : World) → IsPlaced c t → FrameFits c frame w.objects → IsStored w → IsStored (world_of (evaluate files t frame w)) }
     ensures program { (files : Files) (prelude : Tree) (p : Program) → ArePlaced files → IsPlaced (at_home file) prelude → IsStored (world_of (program_run files prelude p (start_world p))) }
     ensures plain { (reader : DataReader) (source : SourceTree) (p : Program) → IsStored (world_of (program_run (files_of reader source) prelude_of_text p (start_world p))) }
-    ensures steps { (store : Objects) → IsGraph store → (k c : ℕ) → IsClass store c → length store ≤ k → line_of k store c ≡ line_of (length store) store c }
-    ensures superclass_steps { (store : Objects) → IsGraph store → (k c : ℕ) → IsClass store c → length store ≤ k → superclasses k store c ≡ superclasses (length store) store c }
+    ensures steps { (store : Objects) → IsGraph store → (k c : ℕ) → 0 < length store → length store ≤ k → line_of k store c ≡ line_of (length store) store c }
+    ensures superclass_steps { (store : Objects) → IsGraph store → (k c : ℕ) → 0 < length store → length store ≤ k → superclasses k store c ≡ superclasses (length store) store c }
     ensures searched_once { (store : Objects) (x : Bytes) (numbers : List ℕ) → find_in store x (map rows_of (each_once numbers)) ≡ find_in store x (map rows_of numbers) }
 {}

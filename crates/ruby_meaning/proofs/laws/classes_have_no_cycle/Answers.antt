@@ -1,4 +1,4 @@
-use Rattle.ruby_meaning.proofs.ClassGraph.{start_graph, enough_steps, enough_superclasses, found_once}
+use Rattle.ruby_meaning.proofs.ClassGraph.{start_graph, line_is_whole, superclasses_are_whole, found_once}
 use Rattle.ruby_meaning.proofs.StoredTrees.{evaluate_stays}
 use Rattle.ruby_meaning.proofs.StoredPrograms.{program_stored}
 use Rattle.ruby_meaning.proofs.PlacedFiles.{plain_stored}
@@ -9,8 +9,8 @@ returns c = record {
   start = start_graph;
   reached = λ files are c t frame w placed fits s. (evaluate_stays files are c t frame w placed fits s).stored;
   program = λ files prelude p are placed. program_stored files are prelude placed p;
-  steps = enough_steps;
-  superclass_steps = enough_superclasses;
+  steps = line_is_whole;
+  superclass_steps = superclasses_are_whole;
   searched_once = found_once;
   plain = plain_stored;
 }
