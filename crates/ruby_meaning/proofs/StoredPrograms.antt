@@ -75,7 +75,7 @@ others_stored s p = ((tt, tt), ((tt, tt), ((tt, tt), ((tt, tt), ((tt, tt), strin
 start_each : (s : Objects) (p : Program) → EachStored s (start_store p)
 start_each s p = classes_stored s 0 start_classes (others p) (others_stored s p)
 
-start_stored : (p : Program) → IsStored (start_world p)
+pub start_stored : (p : Program) → IsStored (start_world p)
 start_stored p = record {
   graph = start_graph p;
   object = refl;

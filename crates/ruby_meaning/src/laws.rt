@@ -11,7 +11,7 @@ ghost use Rattle.ruby_meaning.specs.Files.{Files};
 ghost use Rattle.ruby_meaning.specs.Parts.{in_loop_of, handling};
 ghost use Rattle.ruby_meaning.specs.Evaluation.{run, eval, evaluate, loop, rescuing};
 ghost use Rattle.ruby_meaning.specs.Constructs.{ReadsAsTable, body_of};
-ghost use Rattle.ruby_meaning.specs.PlainRun.{Program, IsPrelude, prelude_of_text, program_run, start_store, start_world, plain_run};
+ghost use Rattle.ruby_meaning.specs.PlainRun.{Program, IsPrelude, prelude_of_text, program_run, start_world, plain_run};
 ghost use Rattle.ruby_meaning.specs.FilesOf.{DataReader, IsRubyFile, files_of};
 ghost use Rattle.ruby_meaning.specs.ClassGraph.{IsGraph};
 ghost use Rattle.reference_laws.specs.Placed.{IsPlaced};
@@ -102,7 +102,7 @@ pub fn runs_end_as_they_may()
 /// so the placement of its tree lets them. What the files of a source tree and the prelude are read
 /// as is placed, so a plain run ends with a value, an exception, no turn left or a full store.
 pub fn outcomes_are_placed()
-    // One step, whatever its bodies do where a tree is not placed or a frame does not fit: no such body is reached.
+    // One step, whatever its bodies do where a tree is not placed or a frame does not fit.
     ensures step { (files : Files) → ArePlaced files → (fuel : ℕ) (b : Tree → Frame → Run) → StaysStored b → StaysStored (run files fuel b) }
     ensures evaluated { (files : Files) → ArePlaced files → (c : Around) (t : Tree) (frame : Frame) (w : World) → IsPlaced c t → FrameFits c frame w.objects → IsStored w → PlacedOut c (evaluate files t frame w) }
     ensures program { (files : Files) (prelude : Tree) (p : Program) → ArePlaced files → IsPlaced (at_home file) prelude → EndsAsProgram (program_run files prelude p (start_world p)) }
@@ -112,8 +112,8 @@ pub fn outcomes_are_placed()
 {}
 
 /// In a frame that fits, a placed `super` has a method that runs, a placed `return` a method or a
-/// file to leave, and a placed `break` a loop or a block. So what stands for these elsewhere is
-/// never reached.
+/// file to leave, and a placed `break` a loop or a block. A run of placed trees makes only frames
+/// that fit, so what stands for these elsewhere is never reached.
 pub fn odd_endings_are_not_reached()
     ensures super_in_a_method { (c : Around) (frame : Frame) (store : Objects) (o : SourcePosition) → FrameFits c frame store → (ts : Trees) (ks : List ℕ) (v b : Other) → IsPlaced c (at o (super ts ks v b)) → is_some frame.method ≡ true }
     ensures bare_super_in_a_method { (c : Around) (frame : Frame) (store : Objects) (o : SourcePosition) → FrameFits c frame store → (b : Other) → IsPlaced c (at o (bare_super b)) → is_some frame.method ≡ true }
@@ -121,13 +121,13 @@ pub fn odd_endings_are_not_reached()
     ensures break_in_a_loop_or_block { (c : Around) (frame : Frame) (store : Objects) (o : SourcePosition) → FrameFits c frame store → (ts : Trees) → IsPlaced c (at o (break_with ts)) → (frame.in_loop || is_some frame.in_block) ≡ true }
 {}
 
-/// The classes of the start are a graph without a way back, whose numbers are of classes, and so
-/// they are in each world that a run of placed trees reaches: what a class includes, its
-/// superclass, and the class bodies around each method and block are classes. As many steps as the
-/// store has objects are enough for each way upward, and a search over each ancestor once finds
-/// what one over the whole way does.
+/// The classes are a graph without a way back in the world of the start and in each that a run of
+/// placed trees reaches, so in that in which a plain run ends: what a class includes, its superclass
+/// and the class bodies around each method and block are classes. As many steps as the store has
+/// objects are enough for each way upward, and a search over each ancestor once finds what one over
+/// the whole way does.
 pub fn classes_have_no_cycle()
-    ensures start { (p : Program) → IsGraph (start_store p) }
+    ensures start { (p : Program) → IsStored (start_world p) }
     ensures reached { (files : Files) → ArePlaced files → (c : Around) (t : Tree) (frame : Frame) (w : World) → IsPlaced c t → FrameFits c frame w.objects → IsStored w → IsStored (world_of (evaluate files t frame w)) }
     ensures program { (files : Files) (prelude : Tree) (p : Program) → ArePlaced files → IsPlaced (at_home file) prelude → IsStored (world_of (program_run files prelude p (start_world p))) }
     ensures plain { (reader : DataReader) (source : SourceTree) (p : Program) → IsStored (world_of (program_run (files_of reader source) prelude_of_text p (start_world p))) }
