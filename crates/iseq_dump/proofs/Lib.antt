@@ -12,3 +12,4 @@ pub mod Units
 pub mod PublicAnswers
 pub mod Dumps
 pub mod Leb128
+pub mod Placed

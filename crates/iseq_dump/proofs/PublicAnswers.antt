@@ -98,7 +98,7 @@ bodies_allowed : (bodies : List Sequence) → AllByRecursion IsBody bodies → A
 bodies_allowed [] fits = tt
 bodies_allowed (body ∷ bodies) fits = (rows_allowed body.rows fits.0.rows.1, bodies_allowed bodies fits.1)
 
-can_be_dumped : (u : CompiledUnit) (bytes : List ℕ) → Spells u bytes → CanBeDumped u
+pub can_be_dumped : (u : CompiledUnit) (bytes : List ℕ) → Spells u bytes → CanBeDumped u
 can_be_dumped u bytes s = record { rows = s.rows; bodies = s.bodies; sequences = bodies_allowed u.bodies s.each }
 
 pub unit_again : (read : Result CompiledUnit ReadError) (answer : Result (Option CompiledUnit) AllocError) (bytes : List ℕ) → Turns read answer → IsIt (λ u. Spells u bytes × HasSoundBodies u) read → IfOk answer (λ r. IfSome r CanBeDumped)

@@ -13,7 +13,7 @@ use Rattle.iseq_dump.specs.declared.fault.ReadError.{ReadError}
 use Rattle.iseq_dump.specs.declared.fault.ReadError.TheVariants.{Memory, NotSpelled}
 use Rattle.iseq_dump.specs.declared.head.Entry.{Entry}
 use Rattle.iseq_dump.specs.declared.head.Head.{Head}
-use Rattle.iseq_dump.specs.Dump.{IsNumber, number_bytes, text_bytes, body_bytes, IsBody, fixed_bytes, entry_bytes, IsEntry, head_bytes, IsHead, AreTiled, end_of, rows_of, entries_of, lengths_of, head_length, head_of, Spells}
+use Rattle.iseq_dump.specs.Dump.{IsNumber, number_bytes, text_bytes, body_bytes, IsBody, fixed_bytes, entry_bytes, IsEntry, head_bytes, IsHead, AreTiled, end_of, rows_of, entries_of, lengths_of, head_length, head_of, unit_of, Spells}
 use Rattle.iseq_dump.specs.Reading.{◌▷◌, Fails, ReadsIt, IsIt, head_at, body_at, whole_at, bodies_at}
 use Rattle.iseq_dump.proofs.Exact.{found, found_is, some_is, bind_some, kept_some, passed_some}
 use Rattle.iseq_dump.proofs.Parts.{nothing}
@@ -35,7 +35,7 @@ pub whole_again : (b : Sequence) → IsBody b → whole_at body_at (body_bytes b
 whole_again b fits =
     ap (whole_at body_at) (sym (append-nil (body_bytes b))) ∙ rw (body_exact.again b [] fits) refl
 
-abbrev lengths : List Entry → List ℕ
+abbrev pub lengths : List Entry → List ℕ
 lengths entries = map (λ entry. entry.length) entries
 
 pub bodies_takes : (entries : List Entry) (old : List ℕ) (bs : List Sequence) (new : List ℕ) → bodies_at entries old ≡ found bs new → (old ≡ flat_map body_bytes bs ++ new) × AllByRecursion IsBody bs × (lengths_of bs ≡ lengths entries)
@@ -206,10 +206,7 @@ locals_of : (es : List Entry) → AllByRecursion IsEntry es → AllByRecursion (
 locals_of [] fits = tt
 locals_of (e ∷ es) fits = (fits.0.locals, locals_of es fits.1)
 
-abbrev pub unit_from : Head → List Sequence → CompiledUnit
-unit_from h bs = record { path = h.path; rows = rows_of h.entries; bodies = bs }
-
-head_back : (h : Head) (bs : List Sequence) → IsHead h → lengths_of bs ≡ lengths h.entries → head_of (unit_from h bs) ≡ h
+head_back : (h : Head) (bs : List Sequence) → IsHead h → lengths_of bs ≡ lengths h.entries → head_of (unit_of h bs) ≡ h
 unfolding head_of
 head_back h bs fits same =
     let made : List Entry → Head = λ es. record { path = h.path; entries = es } in
@@ -217,7 +214,7 @@ head_back h bs fits same =
     let place : head_length h.path (length (rows_of h.entries)) ≡ length (head_bytes h) = ap (head_length h.path) count ∙ sym (head_long h) in
     ap made (ap (λ (n : ℕ). entries_of n (rows_of h.entries) (lengths_of bs)) place ∙ entries_back (length (head_bytes h)) h.entries (lengths_of bs) fits.tiled same)
 
-pub unit_given : (h : Head) (old rest : List ℕ) (bs : List Sequence) (left : List ℕ) → IsHead h → old ≡ head_bytes h ++ rest → bodies_at h.entries rest ≡ found bs left → length left ≡ 0 → IsNumber (length old) → Spells (unit_from h bs) old
+pub unit_given : (h : Head) (old rest : List ℕ) (bs : List Sequence) (left : List ℕ) → IsHead h → old ≡ head_bytes h ++ rest → bodies_at h.entries rest ≡ found bs left → length left ≡ 0 → IsNumber (length old) → Spells (unit_of h bs) old
 unit_given h old rest bs left fits spelled given none small =
     let taken = bodies_takes h.entries rest bs left given in
     let nil : left ≡ [] = nil_from_length left none in
@@ -256,7 +253,7 @@ read_again h old rest fits spelled u s =
 
 -- ---- one spelling
 
-rows_again : (u : CompiledUnit) (bytes : List ℕ) → Spells u bytes → rows_of (head_of u).entries ≡ u.rows
+pub rows_again : (u : CompiledUnit) (bytes : List ℕ) → Spells u bytes → rows_of (head_of u).entries ≡ u.rows
 unfolding head_of
 rows_again u bytes s = rows_back (head_length u.path (length u.rows)) u.rows (lengths_of u.bodies) (length-lengths u.bodies ∙ s.bodies)
 

@@ -1,5 +1,5 @@
 -- The one spelling of each unit, and of its parts.
-use Rattle.std.specs.Prelude.{◌≡◌, ⊤, ℕ, zero, suc, ℤ, pos, negsuc, ◌+◌, ◌*◌, ◌/◌, ◌%◌, ◌^◌, ◌<◌, ◌≤◌, Bool, Option, Some, None, List, [], ◌∷◌, ◌++◌, length, map, slice_get, nat_lt, if◌then◌else◌}
+use Rattle.std.specs.Prelude.{◌≡◌, ⊤, ℕ, zero, suc, ℤ, pos, negsuc, ◌+◌, ◌*◌, ◌/◌, ◌%◌, ◌^◌, ◌<◌, ◌≤◌, Bool, Option, Some, None, List, [], ◌∷◌, ◌++◌, length, map, take, drop, slice_get, nat_lt, if◌then◌else◌}
 use Rattle.std.specs.List.{flat_map, AllByRecursion}
 use Rattle.std.specs.Int.{w64, to_le_bytes}
 use Rattle.iseq_types.specs.Index.{AreIndexRows}
@@ -328,6 +328,17 @@ head_length path count = 4 + length (text_bytes path) + length (number_bytes cou
 
 unfoldable pub head_of : CompiledUnit → Head
 head_of u = record { path = u.path; entries = entries_of (head_length u.path (length u.rows)) u.rows (lengths_of u.bodies) }
+
+-- the unit of a header and its bodies
+abbrev pub unit_of : Head → List Sequence → CompiledUnit
+unit_of head bodies = record { path = head.path; rows = rows_of head.entries; bodies = bodies }
+
+-- All of an entry's bytes are there, and they are the body's.
+pub record HasBody (bytes : List ℕ) (entry : Entry) (body : Sequence) : Type 0 where
+  pub fits : IsBody body
+  pub long : entry.length ≡ length (body_bytes body)
+  pub inside : entry.place + entry.length ≤ length bytes
+  pub spelled : take entry.length (drop entry.place bytes) ≡ body_bytes body
 
 -- The rows are such as an index has, there is a body for each, and each break or next row of a body has sequence 0.
 pub record CanBeDumped (u : CompiledUnit) : Type 0 where

@@ -13,7 +13,7 @@ use crate::head::{Entry, Head, read_any_head};
 use crate::index::{are_rows, are_tiled};
 use crate::part::Part;
 use bs_outside::{Image, Items, Steps};
-use iseq_types::{IndexRow, Sequence, Unit, check_body};
+use iseq_types::{Environments, IndexRow, Sequence, Unit, check_body_in};
 use std::alloc::{AllocError, Global};
 use std::sync::ledger::Ledger;
 
@@ -128,8 +128,9 @@ fn are_sound(alloc: Global, unit: &Unit) -> Result<bool, AllocError>
 {
     let rows = unit.rows.as_slice();
     let bodies = unit.bodies.as_slice();
+    let environments = Environments::new(alloc, rows)?;
     for id in 0..bodies.len() {
-        if check_body(alloc, &bodies[id], rows, id)?.is_none() {
+        if check_body_in(alloc, &bodies[id], rows, &environments, id)?.is_none() {
             return Ok(false);
         }
     }

@@ -9,3 +9,7 @@ pub mod Stepping
 pub mod Searching
 pub mod Keeping
 pub mod Whole
+pub mod Homes
+pub mod Taking
+pub mod Firsts
+pub mod Homing

@@ -86,11 +86,13 @@ pub search_ends : (seq : Sequence) (kind : SeqKind) (depths : Depths) → IsSear
 search_ends seq kind depths s none = record {
   long = s.so_far.long;
   ways = λ place depth at. subst (λ k. Way seq k place depth) s.same (s.so_far.ways place depth at);
-  leads = λ place depth line at is. ⊎_elim
-      (λ waits. absurd (let l = (subst (λ w. Contains w place) none waits).1 in omega (arith, l)))
-      (λ r. ⊎_elim (λ rest. absurd (let l = rest.1 in omega (arith, l))) (λ led. led) r)
-      (s.so_far.followed place depth line at is);
-  first = s.first;
-  entries = s.entries;
-  rows = s.rows;
+  covers = record {
+    first = s.first;
+    entries = s.entries;
+    rows = s.rows;
+    leads = λ place depth line at is. ⊎_elim
+        (λ waits. absurd (let l = (subst (λ w. Contains w place) none waits).1 in omega (arith, l)))
+        (λ r. ⊎_elim (λ rest. absurd (let l = rest.1 in omega (arith, l))) (λ led. led) r)
+        (s.so_far.followed place depth line at is);
+  };
 }

@@ -8,6 +8,7 @@ use Rattle.iseq_types.specs.declared.sequences.Line.{Line}
 use Rattle.iseq_types.specs.declared.depths.Depths.{Depths}
 use Rattle.iseq_types.specs.declared.spans.Span.{Span}
 use Rattle.iseq_types.specs.Instructions.{needs_of, takes_of, depth_after, goes_on, target_of}
+use Rattle.iseq_types.specs.Catch.{Holds}
 use Rattle.iseq_types.specs.Ways.{Way, start_depth}
 use Rattle.iseq_types.specs.Sound.{FindsEnough, HasOneDepth, StartsRight, KeepsDepth}
 
@@ -101,14 +102,24 @@ pub record FindsFollowing (seq : Sequence) (place : ℕ) (line : Line) (after : 
   pub grows : Grows old new
   pub there : HasFollowing seq place line after new
 
--- The list has the depth of each way to each place.
-pub record IsTable (seq : Sequence) (kind : SeqKind) (found : List (Option ℕ)) : Type 0 where
-  pub long : length found ≡ length seq.code
-  pub ways : (place depth : ℕ) → DepthAt found place depth → Way seq kind place depth
-  pub leads : (place depth : ℕ) (line : Line) → DepthAt found place depth → slice_get seq.code place ≡ Some line → Leads seq found place depth line
+-- The list has the depths at which ways begin, and where it has one, the instruction finds enough and what it leads to
+-- is in the list. So it has the depth of each way.
+pub record CoversWays (seq : Sequence) (kind : SeqKind) (found : List (Option ℕ)) : Type 0 where
   pub first : DepthAt found 0 (start_depth kind)
   pub entries : All (λ entry. DepthAt found entry 0) seq.entries
   pub rows : All (HasRow found) seq.rows
+  pub leads : (place depth : ℕ) (line : Line) → DepthAt found place depth → slice_get seq.code place ≡ Some line → Leads seq found place depth line
+
+-- By the depths of the list, no instruction in the row's range takes the stack below the row's `sp`.
+abbrev pub KeepsFloor : Sequence → List (Option ℕ) → CatchRow → Type 0
+KeepsFloor seq found row =
+    (place depth : ℕ) (line : Line) → Holds row place → DepthAt found place depth → slice_get seq.code place ≡ Some line → row.sp + takes_of line.instr ≤ depth
+
+-- The list has the depth of each way to each place, and no other.
+pub record IsTable (seq : Sequence) (kind : SeqKind) (found : List (Option ℕ)) : Type 0 where
+  pub long : length found ≡ length seq.code
+  pub ways : (place depth : ℕ) → DepthAt found place depth → Way seq kind place depth
+  pub covers : CoversWays seq kind found
 
 -- what an instruction leaves alone below what it takes, or the greatest number where no way leads to it
 abbrev pub room_of : Line → Option ℕ → ℕ

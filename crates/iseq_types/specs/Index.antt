@@ -1,6 +1,6 @@
 -- The rows of a unit's index, and what they say of a sequence: its kind, its locals, its children and the
 -- environments outward of it.
-use Rattle.std.specs.Prelude.{◌≡◌, ◌↔◌, ◌<◌, ℕ, suc, List, Some, Bool, true, false, IsTrue, length, slice_get}
+use Rattle.std.specs.Prelude.{◌≡◌, ◌↔◌, ◌<◌, ℕ, zero, suc, List, [], ◌∷◌, Option, Some, None, Bool, true, false, IsTrue, length, slice_get}
 use Rattle.iseq_types.specs.declared.sequences.IndexRow.{IndexRow}
 use Rattle.iseq_types.specs.declared.sequences.SeqKind.{SeqKind}
 use Rattle.iseq_types.specs.declared.sequences.SeqKind.TheVariants.{File, Block, Rescue, Ensure}
@@ -39,3 +39,24 @@ pub data Outward (rows : List IndexRow) : ℕ → ℕ → ℕ → Type 0 where
 abbrev pub HasLocal : List IndexRow → ℕ → ℕ → ℕ → Type 0
 HasLocal rows id slot level =
     (home : ℕ) × (row : IndexRow) × Outward rows id level home × (slice_get rows home ≡ Some row) × (slot < row.locals)
+
+-- The same as a list, the nearest first: a rescue or ensure part has that of what it stands in, a block has its own
+-- before those around it, and any other sequence has its own alone.
+abbrev pub homes_by : SeqKind → ℕ → List ℕ → List ℕ
+homes_by Rescue id others = others
+homes_by Ensure id others = others
+homes_by Block id others = id ∷ others
+homes_by _ id others = id ∷ []
+
+abbrev pub homes_at : Option IndexRow → ℕ → (ℕ → List ℕ) → List ℕ
+homes_at None id homes = []
+homes_at (Some row) id homes = homes_by row.kind id (homes row.parent)
+
+-- up to so many sequences outward
+abbrev pub homes_within : ℕ → List IndexRow → ℕ → List ℕ
+homes_within zero rows id = []
+homes_within (suc more) rows id = homes_at (slice_get rows id) id (homes_within more rows)
+
+-- No more than `id` sequences stand around the one of number `id`, since parents have lower numbers.
+unfoldable pub homes_of : List IndexRow → ℕ → List ℕ
+homes_of rows id = homes_within (suc id) rows id

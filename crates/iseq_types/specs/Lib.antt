@@ -3,9 +3,9 @@ pub mod Instructions
 pub mod Ways
 pub mod Catch
 pub mod Sound
-pub mod Slots
 pub mod Furthest
 pub mod Throws
 pub mod Spans
 pub mod Depths
 pub mod Groups
+pub mod Homes

@@ -4,7 +4,9 @@
 mod catch;
 mod check;
 mod depths;
+mod environments;
 mod instructions;
+pub mod laws;
 mod locals;
 mod operands;
 mod sequences;
@@ -13,6 +15,7 @@ mod spans;
 mod throws;
 
 pub use catch::find_catch;
-pub use check::{Sound, check_body};
+pub use check::{Sound, check_body, check_body_in};
+pub use environments::Environments;
 pub use instructions::{Instr, Literal};
 pub use sequences::{CatchKind, CatchRow, IndexRow, Line, SeqKind, Sequence, Unit};

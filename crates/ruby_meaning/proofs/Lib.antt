@@ -1,6 +1,7 @@
 pub mod NativeRows
 pub mod NativeTexts
 pub mod Rows
+pub mod EdgeRows
 pub mod DataRow
 pub mod Truths
 pub mod Leading

@@ -11,12 +11,12 @@ use Rattle.ruby_meaning.specs.Numbers.{object_class, name_error, type_error, arg
 use Rattle.ruby_meaning.specs.Store.{class_cells, method_cells, name_cells, environment_cells, array_cells, hash_cells, range_cells, new_object, has_name, with_name, kind_at, class_at, class_name, is_class_or_module, is_a, is_one_of, name_of_class_of, with_pairs}
 use Rattle.ruby_meaning.specs.Locals.{place_of, locals_of}
 use Rattle.ruby_meaning.specs.Constants.{own_constant, innermost, name_behind, constant_around, constant_behind, missing_constant}
-use Rattle.ruby_meaning.specs.World.{Home, in_file, in_method, in_class, Given, World, Frame, to_loop, to_call, Break, Return, Run, text_of}
-use Rattle.ruby_meaning.specs.Steps.{changing, with_object, make}
+use Rattle.ruby_meaning.specs.World.{Home, in_file, in_method, in_class, Given, World, Frame, to_loop, to_call, Done, Break, Return, Run, text_of}
+use Rattle.ruby_meaning.specs.Steps.{changing, make_string, with_object, make}
 use Rattle.ruby_meaning.specs.Calls.{all_nil, next_environment}
 use Rattle.ruby_meaning.specs.Definitions.{holder, set_local_in, set_local, fixed_global, with_global, name_cost, set_global_if, with_constant, set_constant, set_goal, set_goals, constant_found, class_number, behind_class, path_from, path_around, code_of, with_row, with_class_row, define_on, define_method}
 use Rattle.ruby_meaning.specs.ClassBodies.{is_class_kind, is_module_kind, class_alone, module_alone, same_class, class_frame, open_class, make_class, not_a, open_found, class_or_new, module_or_new, if_same_superclass, below_base, with_base, class_below, class_named, module_of_name}
-use Rattle.ruby_meaning.specs.Parts.{make_array, make_hash, no_range, range_to, make_range, piece_found, piece_of, of_values, unexpected_return, leave_from, leave_home, no_break, leave_block, leave_loop, given_of, wrong_block, given_found, given_value, match_found, match_class}
+use Rattle.ruby_meaning.specs.Parts.{make_array, make_hash, no_range, range_to, make_range, piece_found, piece_of, joined_text, make_joined, of_values, unexpected_return, leave_from, leave_home, no_break, leave_block, leave_loop, given_of, wrong_block, given_found, given_value, match_found, match_class}
 use Rattle.ruby_meaning.specs.ClassGraph.{number_if, StoreLeads}
 use Rattle.reference_laws.specs.Placed.{home_of, IsPlaced}
 use Rattle.ruby_meaning.specs.Stored.{IsClass, AreClasses, IsStored, StoredOut}
@@ -278,12 +278,18 @@ module _ (k : Known) (c : Around) where
   keep_make_range frame line t (symbol_named x) v = keep_no_range frame line
   keep_make_range frame line t (object n) v = keep_no_range frame line
 
-  keep_piece_found : (v : Value) (go : Bytes → Run) (o : Option Bytes) → ((f : Bytes) → Keeps k c (go f)) → Keeps k c (piece_found v go o)
-  keep_piece_found v go None h = keep_reading k c (λ w. codes "#<" ++ (name_of_class_of w.objects v ++ codes ">")) _ (λ f. keep_make_string k c f _ (λ n. h f))
-  keep_piece_found v go (Some f) h = h f
+  pub keep_string : (f : Bytes) → Keeps k c (make_string f (λ n. Done (object n)))
+  keep_string f = keep_make_string k c f _ (λ n. keep_done k c (object n))
 
-  pub keep_piece : (v u : Value) (go : Bytes → Run) → ((f : Bytes) → Keeps k c (go f)) → Keeps k c (piece_of v u go)
-  keep_piece v u go h = keep_reading k c (λ w. text_of w.objects u) _ (λ o. keep_piece_found v go o h)
+  keep_piece_found : (v u : Value) (o : Option Bytes) → Keeps k c (piece_found v u o)
+  keep_piece_found v u None = keep_reading k c (λ w. codes "#<" ++ (name_of_class_of w.objects v ++ codes ">")) _ (λ f. keep_string f)
+  keep_piece_found v u (Some f) = keep_done k c u
+
+  pub keep_piece : (v u : Value) → Keeps k c (piece_of v u)
+  keep_piece v u = keep_reading k c (λ w. text_of w.objects u) _ (λ o. keep_piece_found v u o)
+
+  pub keep_joined : (vs : List Value) → Keeps k c (make_joined vs)
+  keep_joined vs = keep_reading k c (λ w. joined_text w.objects vs) _ (λ f. keep_string f)
 
   pub keep_values : (vs : List Value) (go : Value → Run) → ((v : Value) → Keeps k c (go v)) → Keeps k c (of_values vs go)
   keep_values [] go h = h nil

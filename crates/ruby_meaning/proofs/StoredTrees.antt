@@ -25,7 +25,7 @@ use Rattle.ruby_meaning.proofs.StoredStores.{keeps_same}
 use Rattle.ruby_meaning.proofs.StoredSteps.{Known, with_class, Keeps, Moves, moves_same, stored_on, keep_stay, keep_done, keep_raise, keep_then, keep_reading, keep_read, keep_changing, keep_choose, keep_make_string, keep_known, broken_out, part_out, keep_loop_from, keep_rescuing, keep_finished}
 use Rattle.ruby_meaning.proofs.StoredCalls.{in_frame, Bodies, find_stored, keep_entering, keep_no_method, keep_given}
 use Rattle.ruby_meaning.proofs.StoredLoads.{if_found_out, keep_call, keep_send}
-use Rattle.ruby_meaning.proofs.StoredParts.{moves_local, keep_set_goal, keep_set_goals, keep_path_from, keep_path_around, keep_define_method, keep_open_class, keep_class_below, keep_class_named, keep_module_named, keep_make_array, keep_make_hash, keep_make_range, keep_piece, keep_values, keep_leave_home, keep_leave_loop, keep_given_value, keep_match}
+use Rattle.ruby_meaning.proofs.StoredParts.{moves_local, keep_set_goal, keep_set_goals, keep_path_from, keep_path_around, keep_define_method, keep_open_class, keep_class_below, keep_class_named, keep_module_named, keep_make_array, keep_make_hash, keep_make_range, keep_string, keep_piece, keep_joined, keep_values, keep_leave_home, keep_leave_loop, keep_given_value, keep_match}
 
 -- One more closure, that is stored.
 closures_push : (s : Objects) (all : List Closure) (d : Closure) → ClosuresStored s all → ClosureStored s d → ClosuresStored s (all ++ d ∷ [])
@@ -119,7 +119,7 @@ module _ (files : Files) (are : ArePlaced files) (fuel : ℕ) (b : Tree → Fram
     keep_form c (local x) s frame e p = keep_reading (in_frame c frame) c (read_local frame x) _ (λ v. keep_done (in_frame c frame) c v)
     keep_form c (instance x) s frame e p = keep_reading (in_frame c frame) c (variable_of frame.self_value x) _ (λ v. keep_done (in_frame c frame) c v)
     keep_form c (global x) s frame e p = keep_reading (in_frame c frame) c (read_global x) _ (λ v. keep_done (in_frame c frame) c v)
-    keep_form c (joined ps) s frame e p = keep_pieces c ps frame s.line [] _ p (λ x. keep_make_string (in_frame c frame) c x _ (λ n. keep_done (in_frame c frame) c (object n)))
+    keep_form c (joined ps) s frame e p = keep_pieces c ps frame s.line [] _ p (λ vs. keep_joined (in_frame c frame) c vs)
     keep_form c (array ts ks) s frame e p = keep_trees c ts frame [] _ p (λ vs. keep_reading (in_frame c frame) c (spread ks vs) _ (λ us. keep_make_array (in_frame c frame) c us _ (λ v. keep_done (in_frame c frame) c v)))
     keep_form c (hash ps) s frame e p = keep_pairs c ps frame [] _ p (λ qs. keep_make_hash (in_frame c frame) c qs)
     keep_form c (range a d t) s frame e p = keep_then (in_frame c frame) c _ _ (keep_run c a frame p.0) (λ u. keep_then (in_frame c frame) c _ _ (keep_run c d frame p.1) (λ v. keep_make_range (in_frame c frame) c frame s.line t u v))
@@ -237,12 +237,12 @@ module _ (files : Files) (are : ArePlaced files) (fuel : ℕ) (b : Tree → Fram
     keep_pairs c (pair t u ps) frame qs go p k =
         keep_then (in_frame c frame) c _ _ (keep_run c t frame p.0) (λ x. keep_then (in_frame c frame) c _ _ (keep_run c u frame p.1.0) (λ v. keep_pairs c ps frame (qs ++ (x, v) ∷ []) go p.1.1 k))
 
-    keep_pieces : (c : Around) (ps : Pieces) (frame : Frame) (line : ℕ) (x : Bytes) (go : Bytes → Run) → PiecesPlaced c ps → ((y : Bytes) → Keeps (in_frame c frame) c (go y)) → Keeps (in_frame c frame) c (run_pieces files fuel b ps frame line x go)
-    keep_pieces c no_piece frame line x go p k = k x
-    keep_pieces c (plain_piece y ps) frame line x go p k = keep_make_string (in_frame c frame) c y _ (λ n. keep_pieces c ps frame line (x ++ y) go p k)
-    keep_pieces c (code_piece t ps) frame line x go p k =
+    keep_pieces : (c : Around) (ps : Pieces) (frame : Frame) (line : ℕ) (vs : List Value) (go : List Value → Run) → PiecesPlaced c ps → ((us : List Value) → Keeps (in_frame c frame) c (go us)) → Keeps (in_frame c frame) c (run_pieces files fuel b ps frame line vs go)
+    keep_pieces c no_piece frame line vs go p k = k vs
+    keep_pieces c (plain_piece x ps) frame line vs go p k = keep_then (in_frame c frame) c _ _ (keep_string (in_frame c frame) c x) (λ v. keep_pieces c ps frame line (vs ++ v ∷ []) go p k)
+    keep_pieces c (code_piece t ps) frame line vs go p k =
         keep_then (in_frame c frame) c _ _ (keep_run c t frame p.0) (λ v. keep_then (in_frame c frame) c _ _ (sends c frame line v (codes "to_s") []) (λ u.
-        keep_piece (in_frame c frame) c v u _ (λ y. keep_pieces c ps frame line (x ++ y) go p.1 k)))
+        keep_then (in_frame c frame) c _ _ (keep_piece (in_frame c frame) c v u) (λ x. keep_pieces c ps frame line (vs ++ x ∷ []) go p.1 k)))
 
     keep_whens : (c : Around) (ws : Whens) (frame : Frame) (v : Value) (last : Run) → WhensPlaced c ws → Keeps (in_frame c frame) c last → Keeps (in_frame c frame) c (run_whens files fuel b ws frame v last)
     keep_whens c no_when frame v last p k = k

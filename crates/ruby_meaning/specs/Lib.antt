@@ -30,6 +30,7 @@ pub mod WordLaws
 pub mod Node
 pub mod PreludeTree
 pub mod Rows
+pub mod EdgeRows
 pub mod WordRows
 pub mod Laws
 pub mod RunLaws

@@ -3,6 +3,7 @@ ghost use Rattle.std.specs.Prelude.{◌≡◌, ◌≤◌, []};
 ghost use Rattle.ruby_tree.specs.Depth.{depth};
 ghost use Rattle.ruby_tree.specs.Placement.{faults, at_home, file};
 ghost use Rattle.ruby_meaning.specs.PreludeTree.{prelude_tree};
+ghost use Rattle.ruby_meaning.specs.EdgeRows.{EdgeRows};
 ghost use Rattle.ruby_meaning.specs.Rows.{bare_name, block_locals, block_outlives_method, block_values, break_of_ended_call, break_through_ensure, case_of_values, case_in_a_clause, case_in_an_ensure, cells_of_a_class, cells_of_a_hash, cells_of_a_local, cells_of_a_proc, cells_of_a_text, indexed_asks, other_asks, cells_of_an_exception, class_bodies, constants_outward, cycle_of_features, data_fault_row, data_row, divided_by_zero, ensure_and_break, ensure_replaces, exact_turns, exit_out_of_range, exit_runs_ensure, faulty_program, floor_of_quotients, frozen, frozen_features, given_blocks, global_names, lexical_constants, lines_of_input, load_twice, locals_of_modifiers, loops, missing_constant, missing_feature, missing_program, module_methods, no_text, no_turn, one_turn_less, count_before_turn, turn_before_depth, operators, order_of_a_call, order_of_parts, own_to_s, parameters, place_in_a_block, raise_in_else, raise_in_feature, raised_again, relative, reopened, require_twice, rescue_of_no_class, retries, retry_in_a_body, retry_in_an_else, return_from_block, return_in_file_block, return_of_ended_method, return_through_block, self_methods, several_classes, singleton_refused, spread, stack_too_deep, sum_row, super_on_self, super_rows, superclass_mismatch, texts_of_values, too_large, trace_row, turns_are_spent, wrong_count, yield_without_block};
 
 /// What the plain run of each program leaves. Each clause has the name of its row in
@@ -91,6 +92,12 @@ pub fn small_programs()
     ensures of_cells_of_a_class { cells_of_a_class }
     ensures of_cells_of_a_proc { cells_of_a_proc }
     ensures of_cells_of_an_exception { cells_of_an_exception }
+{}
+
+/// What the plain run of each program leaves, of which the texts are read: sentences of the
+/// definitions that the programs above would not notice. The clauses are in specs/EdgeRows.antt.
+pub fn edge_programs()
+    ensures { EdgeRows }
 {}
 
 /// The prelude's tree is not too deep, and everything in it stands where it may.

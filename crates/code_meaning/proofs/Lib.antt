@@ -1,0 +1,5 @@
+pub mod Sizes
+pub mod Placing
+pub mod Order
+pub mod Once
+pub mod Frames

@@ -1,0 +1,4 @@
+pub mod Code
+pub mod Slots
+pub mod Machine
+pub mod Frames

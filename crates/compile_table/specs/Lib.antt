@@ -1,0 +1,4 @@
+pub mod Shapes
+pub mod Sequences
+pub mod Order
+pub mod Worked

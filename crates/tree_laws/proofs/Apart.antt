@@ -1,0 +1,68 @@
+-- The sequences of a text's tree begin at places of their own, within the text.
+use Rattle.std.proofs.Common.{◌≡◌, ℕ, zero, suc, ◌≤◌, ◌<◌, Bool, true, false, cond, nat_eq, List, [], ◌∷◌, length, ◌⊎◌, inl, inr, refl, ap, arith}
+use Rattle.std.specs.List.{IsDistinct, AllByRecursion}
+use Rattle.std.proofs.lemmas.Bool.{eq-eqb}
+use Rattle.ruby_lexer.specs.Bytes.{Bytes}
+use Rattle.ruby_lexer.specs.Tokens.{before_end}
+use Rattle.ruby_tree.specs.Tree.{Tree}
+use Rattle.ruby_tree.specs.Reading.{Reads}
+use Rattle.ruby_meaning.specs.Sequences.{places}
+use Rattle.tree_laws.proofs.Spots.{one_at, count, spots}
+use Rattle.tree_laws.proofs.FillStatements.{filling}
+use Rattle.tree_laws.proofs.SpotsOfTexts.{Sole, tokens_sole}
+
+abbrev one_if : Bool → ℕ
+one_if b = cond b 1 0
+
+zero_false : (b : Bool) → one_if b ≡ 0 → b ≡ false
+zero_false true e = absurd (omega (arith, e))
+zero_false false e = refl
+
+itself : (x : ℕ) → one_at x x ≡ 1
+itself x = ap one_if (eq-eqb x x refl)
+
+absent : (x : ℕ) (xs : List ℕ) → count x xs ≡ 0 → AllByRecursion (λ y. nat_eq x y ≡ false) xs
+absent x [] e = tt
+absent x (y ∷ xs) e = (zero_false (nat_eq x y) (omega (arith, e)), absent x xs (omega (arith, e)))
+
+distinct : (xs : List ℕ) → ((p : ℕ) → count p xs ≤ 1) → IsDistinct nat_eq xs
+unfolding IsDistinct
+distinct [] h = tt
+distinct (x ∷ xs) h = (absent x xs (omega (arith, h x, itself x)), distinct xs (λ p. omega (arith, h p)))
+
+either : (x n : ℕ) → (x < n) ⊎ (n ≤ x)
+either x zero = inr (omega arith)
+either zero (suc n) = inl (omega arith)
+either (suc x) (suc n) = up (either x n)
+  where
+    up : (x < n) ⊎ (n ≤ x) → (suc x < suc n) ⊎ (suc n ≤ suc x)
+    up (inl h) = inl (omega (arith, h))
+    up (inr h) = inr (omega (arith, h))
+
+below : (n : ℕ) (xs : List ℕ) → ((p : ℕ) → n ≤ p → count p xs ≡ 0) → AllByRecursion (λ p. p < n) xs
+below n [] h = tt
+below n (x ∷ xs) h = (first (either x n), below n xs (λ p less. omega (arith, h p less)))
+  where
+    first : (x < n) ⊎ (n ≤ x) → x < n
+    first (inl less) = less
+    first (inr less) = absurd (omega (arith, h x less, itself x))
+
+once_of : (p n to : ℕ) → Sole p n 0 to → n ≤ 1
+once_of p n to (inl h) = omega (arith, h)
+once_of p n to (inr h) = omega (arith, h.0)
+
+none_of : (p n to : ℕ) → to ≤ p → Sole p n 0 to → n ≡ 0
+none_of p n to less (inl h) = h
+none_of p n to less (inr h) = absurd (omega (arith, less, h.1.1))
+
+module _ (source : Bytes) (t : Tree) (R : Reads source t) where
+  counted : (p : ℕ) → count p (places t) ≤ spots p R.tokens
+  counted p =
+      let a = (filling p (before_end source) R.derived.depth).stmts {most = spots p R.tokens} {l = 0} R.derived.derived (record { holds = omega arith }) in
+      omega (arith, a.part.holds, a.rest.holds)
+
+  pub places_apart : IsDistinct nat_eq (places t)
+  places_apart = distinct (places t) (λ p. omega (arith, counted p, once_of p (spots p R.tokens) _ (tokens_sole p source R.tokens R.are_tokens)))
+
+  pub places_below : AllByRecursion (λ p. p < length (before_end source)) (places t)
+  places_below = below (length (before_end source)) (places t) (λ p less. omega (arith, counted p, none_of p (spots p R.tokens) _ less (tokens_sole p source R.tokens R.are_tokens)))

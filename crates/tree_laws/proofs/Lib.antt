@@ -1,0 +1,5 @@
+pub mod Spots
+pub mod FillParts
+pub mod FillStatements
+pub mod SpotsOfTexts
+pub mod Apart
