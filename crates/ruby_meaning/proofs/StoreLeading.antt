@@ -13,7 +13,7 @@ use Rattle.ruby_meaning.proofs.NativeStores.{KeepsStores}
 pub store_same : (store : Objects) → StoreLeads store store
 store_same store = record { longer = omega arith; classes = λ n h. refl; graph = λ g. g }
 
-less_on : (a b c : ℕ) → a < b → b ≤ c → a < c
+pub less_on : (a b c : ℕ) → a < b → b ≤ c → a < c
 less_on a b c h k = omega arith
 
 at_most_on : (a b c : ℕ) → a ≤ b → b ≤ c → a ≤ c

@@ -2,6 +2,7 @@
 use Rattle.std.proofs.Common.{◌≡◌, ℕ, Bool, true, false, refl, sym, List, Option, Some, None}
 use Rattle.std.specs.Prelude.{not, ◌||◌, is_some}
 use Rattle.std.proofs.lemmas.Bool.{false≢true}
+use Rattle.ruby_meaning.proofs.Truths.{holds}
 use Rattle.ruby_tree.specs.Tree.{SourcePosition, at, super, bare_super, return_with, break_with, Trees, Other}
 use Rattle.ruby_tree.specs.Placement.{Around, is_method, is_class, all_required}
 use Rattle.ruby_tree.specs.Placement as placement
@@ -13,10 +14,6 @@ use Rattle.ruby_meaning.specs.Stored.{HomeFits, FrameFits}
 first : (a b : Bool) → (a || b) ≡ false → a ≡ false
 first true b h = h
 first false b h = refl
-
-holds : (b : Bool) → not b ≡ false → b ≡ true
-holds true h = refl
-holds false h = absurd (false≢true (sym h))
 
 method_runs : (h : placement.Home) (k : Home) (m : Option Running) → HomeFits h k m → is_method h ≡ true → is_some m ≡ true
 method_runs placement.file k m f e = absurd (false≢true e)

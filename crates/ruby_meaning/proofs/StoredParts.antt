@@ -11,8 +11,8 @@ use Rattle.ruby_meaning.specs.Numbers.{object_class, name_error, type_error, arg
 use Rattle.ruby_meaning.specs.Store.{class_cells, method_cells, name_cells, environment_cells, array_cells, hash_cells, range_cells, new_object, has_name, with_name, kind_at, class_at, class_name, is_class_or_module, is_a, is_one_of, name_of_class_of, with_pairs}
 use Rattle.ruby_meaning.specs.Locals.{place_of, locals_of}
 use Rattle.ruby_meaning.specs.Constants.{own_constant, innermost, name_behind, constant_around, constant_behind, missing_constant}
-use Rattle.ruby_meaning.specs.World.{Done, Home, in_file, in_method, in_class, Given, World, Frame, to_loop, to_call, Break, Return, Run, text_of}
-use Rattle.ruby_meaning.specs.Steps.{changing, with_object, make, make_string}
+use Rattle.ruby_meaning.specs.World.{Home, in_file, in_method, in_class, Given, World, Frame, to_loop, to_call, Done, Break, Return, Run, text_of}
+use Rattle.ruby_meaning.specs.Steps.{changing, make_string, with_object, make}
 use Rattle.ruby_meaning.specs.Calls.{all_nil, next_environment}
 use Rattle.ruby_meaning.specs.Definitions.{holder, set_local_in, set_local, fixed_global, with_global, name_cost, set_global_if, with_constant, set_constant, set_goal, set_goals, constant_found, class_number, behind_class, path_from, path_around, code_of, with_row, with_class_row, define_on, define_method}
 use Rattle.ruby_meaning.specs.ClassBodies.{is_class_kind, is_module_kind, class_alone, module_alone, same_class, class_frame, open_class, make_class, not_a, open_found, class_or_new, module_or_new, if_same_superclass, below_base, with_base, class_below, class_named, module_of_name}

@@ -1,6 +1,7 @@
 -- The plain run as a whole over placed files: its world is stored, and it ends as a program does.
-use Rattle.std.proofs.Common.{◌≡◌, ℕ, zero, suc, ◌+◌, Bool, true, false, refl, arith, List, [], ◌∷◌, ◌++◌, map, length, Option, Some, None}
+use Rattle.std.proofs.Common.{ℕ, zero, suc, ◌+◌, Bool, true, false, refl, arith, List, [], ◌∷◌, ◌++◌, map, length, Option, Some, None}
 use Rattle.std.specs.Prelude.{filter_map}
+use Rattle.std.proofs.lemmas.Bool.{false≢true}
 use Rattle.ruby_tree.specs.Names.{Bytes}
 use Rattle.ruby_tree.specs.Tree.{Tree}
 use Rattle.ruby_tree.specs.Placement.{at_home, file}
@@ -100,16 +101,13 @@ program_out files are prelude placed p = (program_keeps files are prelude placed
 pub program_stored : (files : Files) → ArePlaced files → (prelude : Tree) → IsPlaced (at_home file) prelude → (p : Program) → IsStored (world_of (program_run files prelude p (start_world p)))
 program_stored files are prelude placed p = (program_out files are prelude placed p).stored
 
-never : false ≡ true → ⊥
-never e = absurd (cc)
-
 as_program : (o : Outcome) → EndsOutside o → PlacedOut (at_home file) o → EndsAsProgram o
 as_program (Done v w) e h = tt
 as_program (Raise v w) e h = tt
 as_program (Break t v w) e h = e
-as_program (Next v w) e h = never h
+as_program (Next v w) e h = false≢true h
 as_program (Return n v w) e h = e
-as_program (Retry w) e h = never h
+as_program (Retry w) e h = false≢true h
 as_program (Spent w) e h = tt
 as_program (Full w) e h = tt
 

@@ -1,5 +1,5 @@
 -- One run from a stored world ends in one, and its outcome is placed: what each small step needs.
-use Rattle.std.proofs.Common.{◌≡◌, ℕ, zero, suc, ◌+◌, ◌<◌, ◌≤◌, Bool, true, false, refl, sym, subst, ap, ◌∙◌, arith, length}
+use Rattle.std.proofs.Common.{◌≡◌, ℕ, zero, suc, ◌+◌, Bool, true, false, refl, sym, subst, ap, ◌∙◌, length}
 use Rattle.std.specs.Prelude.{codes, nat_eq, nat_le, nat_lt}
 use Rattle.ruby_tree.specs.Names.{Bytes}
 use Rattle.ruby_tree.specs.Placement.{Around, in_loop, in_clause, outside_clause}
@@ -11,7 +11,8 @@ use Rattle.ruby_meaning.specs.Steps.{then_do, then, reading, changing, choose, p
 use Rattle.ruby_meaning.specs.Evaluation.{goes_on, loop, loop_from, rescuing}
 use Rattle.ruby_meaning.specs.ClassGraph.{StoreLeads}
 use Rattle.ruby_meaning.specs.Stored.{IsClass, ClosuresStored, IsStored, PlacedOut, StoredOut}
-use Rattle.ruby_meaning.proofs.StoreLeading.{store_same, store_on, stays_class}
+use Rattle.ruby_meaning.proofs.Catching.{here_world}
+use Rattle.ruby_meaning.proofs.StoreLeading.{less_on, store_same, store_on, stays_class}
 use Rattle.ruby_meaning.proofs.StoredStores.{closures_on, StoreKeeps, keeps_same, keeps_made}
 
 -- What is known of the store while a run goes on, and stays known of each store to which it leads.
@@ -35,9 +36,6 @@ pub record Keeps (k : Known) (c : Around) (m : Run) : Type 0 where
 pub record Moves (w z : World) : Type 0 where
   pub leads : StoreLeads w.objects z.objects
   pub stored : IsStored z
-
-less_on : (a b c : ℕ) → a < b → b ≤ c → a < c
-less_on a b c h k = omega arith
 
 -- a stored world is one after a change of its objects, and with more closures that are stored
 pub stored_on : (w z : World) → StoreKeeps w.objects z.objects → ClosuresStored z.objects z.closures → IsStored w → IsStored z
@@ -107,11 +105,6 @@ module _ (k : Known) (c : Around) where
   pub keep_choose : (t : Bool) (m a : Run) → Keeps k c m → Keeps k c a → Keeps k c (choose t m a)
   keep_choose true m a h g = h
   keep_choose false m a h g = g
-
-  -- where the test holds alone
-  pub keep_chosen : (t : Bool) (m a : Run) → (t ≡ true → Keeps k c m) → Keeps k c a → Keeps k c (choose t m a)
-  keep_chosen true m a h g = h refl
-  keep_chosen false m a h g = g
 
   paid_out : (turns : ℕ) (w : World) (go : Run) → Keeps k c go → k.holds w.objects → IsStored w → StoredOut c w (paid_from turns w go)
   paid_out zero w go h p s = record { leads = store_same w.objects; stored = s; placed = tt }
@@ -194,10 +187,6 @@ pub keep_known : (k j : Known) (c : Around) (m : Run) → ((s : Objects) → k.h
 keep_known k j c m more h = record { by = λ w p s. h.by w (more w.objects p) s }
 
 -- Where an inner frame's outcome is caught, or goes on.
-
-here_world : (t : Bool) (v : Value) (o : Outcome) (w : World) → world_of o ≡ w → world_of (if_here t (Done v w) o) ≡ w
-here_world true v o w h = refl
-here_world false v o w h = h
 
 here_placed : (c : Around) (t : Bool) (v : Value) (w : World) (o : Outcome) → PlacedOut c o → PlacedOut c (if_here t (Done v w) o)
 here_placed c true v w o h = tt

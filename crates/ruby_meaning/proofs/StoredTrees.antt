@@ -1,7 +1,6 @@
 -- The evaluation of placed trees as a whole, from a stored world.
-use Rattle.std.proofs.Common.{◌≡◌, ℕ, zero, suc, pred, Bool, true, false, refl, sym, List, [], ◌∷◌, ◌++◌, map, length, Option, Some, None}
-use Rattle.std.specs.Prelude.{codes, not}
-use Rattle.std.proofs.lemmas.Bool.{false≢true}
+use Rattle.std.proofs.Common.{◌≡◌, ℕ, zero, suc, pred, Bool, false, refl, List, [], ◌∷◌, ◌++◌, map, length, Option, Some, None}
+use Rattle.std.specs.Prelude.{codes}
 use Rattle.bs_outside.specs.Paths.{parent_of}
 use Rattle.ruby_tree.specs.Names.{Bytes}
 use Rattle.ruby_tree.specs.Tree.{SourcePosition, Tree, at, Form, nil_value, true_value, false_value, integer, symbol, text, self_value, file_name, folder_name, line_number, local, instance, global, joined, array, hash, range, constant_path, assign, assign_all, assign_attribute, assign_index, operate_attribute, or_attribute, and_attribute, operate_index, or_index, and_index, send, safe_send, yield, super, bare_super, bare_raise, statements, both, either, negated, if_else, while_loop, case_of, case_tests, return_with, break_with, next_with, retry, rescue, ensure, rescue_sequence, ensure_sequence, method, class, module_named, body, Trees, no_more, more, Other, without, with, Pairs, no_pair, pair, Pieces, no_piece, plain_piece, code_piece, Whens, no_when, when, Rescues, no_clause, clause, Params, no_param, required, optional, rest_param, block_param}
@@ -20,17 +19,13 @@ use Rattle.ruby_meaning.specs.Parts.{parts_of, super_found, places_behind, in_lo
 use Rattle.ruby_meaning.specs.Evaluation.{unless_nil, is_given_one, set_exception, with_block, send_with, super_with, super_to, set_by_send, run, run_form, run_all, run_trees, run_other, run_last, run_receiver, run_given_value, run_path, run_class, run_pairs, run_pieces, run_whens, run_patterns, run_tests, run_any, run_clauses, run_clause, run_classes, run_defaults, eval, evaluate}
 use Rattle.reference_laws.specs.Placed.{IsPlaced, FormPlaced, TreesPlaced, OtherPlaced, PairsPlaced, PiecesPlaced, WhensPlaced, ClausesPlaced, ParamsPlaced}
 use Rattle.ruby_meaning.specs.Stored.{AreClasses, ClosureStored, ClosuresStored, IsStored, FrameFits, ArePlaced, StaysStored}
+use Rattle.ruby_meaning.proofs.Truths.{holds}
 use Rattle.ruby_meaning.proofs.StoreLeading.{store_same}
 use Rattle.ruby_meaning.proofs.StoredStores.{keeps_same}
 use Rattle.ruby_meaning.proofs.StoredSteps.{Known, with_class, Keeps, Moves, moves_same, stored_on, keep_stay, keep_done, keep_raise, keep_then, keep_reading, keep_read, keep_changing, keep_choose, keep_make_string, keep_known, broken_out, part_out, keep_loop_from, keep_rescuing, keep_finished}
 use Rattle.ruby_meaning.proofs.StoredCalls.{in_frame, Bodies, find_stored, keep_entering, keep_no_method, keep_given}
 use Rattle.ruby_meaning.proofs.StoredLoads.{if_found_out, keep_call, keep_send}
 use Rattle.ruby_meaning.proofs.StoredParts.{moves_local, keep_set_goal, keep_set_goals, keep_path_from, keep_path_around, keep_define_method, keep_open_class, keep_class_below, keep_class_named, keep_module_named, keep_make_array, keep_make_hash, keep_make_range, keep_string, keep_piece, keep_joined, keep_values, keep_leave_home, keep_leave_loop, keep_given_value, keep_match}
-
--- a test that is no fault holds
-holds : (b : Bool) → not b ≡ false → b ≡ true
-holds true h = refl
-holds false h = absurd (false≢true (sym h))
 
 -- One more closure, that is stored.
 closures_push : (s : Objects) (all : List Closure) (d : Closure) → ClosuresStored s all → ClosureStored s d → ClosuresStored s (all ++ d ∷ [])
