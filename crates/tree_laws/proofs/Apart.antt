@@ -1,9 +1,11 @@
 -- The sequences of a text's tree begin at places of their own, within the text.
 use Rattle.std.proofs.Common.{◌≡◌, ℕ, zero, suc, ◌≤◌, ◌<◌, Bool, true, false, cond, nat_eq, List, [], ◌∷◌, length, ◌⊎◌, inl, inr, refl, ap, arith}
 use Rattle.std.specs.List.{IsDistinct, AllByRecursion}
+use Rattle.std.specs.Prelude.{◌^◌}
 use Rattle.std.proofs.lemmas.Bool.{eq-eqb}
+use Rattle.std.proofs.lemmas.List.{length-take}
 use Rattle.ruby_lexer.specs.Bytes.{Bytes}
-use Rattle.ruby_lexer.specs.Tokens.{before_end}
+use Rattle.ruby_lexer.specs.Tokens.{end_length, before_end}
 use Rattle.ruby_tree.specs.Tree.{Tree}
 use Rattle.ruby_tree.specs.Reading.{Reads}
 use Rattle.ruby_meaning.specs.Sequences.{places}
@@ -66,3 +68,14 @@ module _ (source : Bytes) (t : Tree) (R : Reads source t) where
 
   pub places_below : AllByRecursion (λ p. p < length (before_end source)) (places t)
   places_below = below (length (before_end source)) (places t) (λ p less. omega (arith, counted p, none_of p (spots p R.tokens) _ less (tokens_sole p source R.tokens R.are_tokens)))
+
+  -- a text is short
+  short : length (before_end source) ≤ 4194304
+  unfolding before_end
+  short = omega (arith, length-take (end_length true source) source, R.are_tokens.is_text.short)
+
+  beyond : (p : ℕ) → 2 ^ 64 ≤ p → length (before_end source) ≤ p
+  beyond p h = omega (arith, short)
+
+  pub places_small : AllByRecursion (λ p. p < 2 ^ 64) (places t)
+  places_small = below (2 ^ 64) (places t) (λ p less. omega (arith, counted p, none_of p (spots p R.tokens) _ (beyond p less) (tokens_sole p source R.tokens R.are_tokens)))
