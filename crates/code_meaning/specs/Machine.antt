@@ -376,3 +376,12 @@ module _ (files : Files) (b : Tree → Frame → Run) (seqs : ℕ → Routine) (
       ensuring : {seq : Routine} {frame : Frame} {r : CatchRow} {rs : List CatchRow} {st : List Value} {c o : Outcome} (w : World) (c1 : Outcome)
           → meet r c ≡ ensures w → Runs (seqs r.seq) (ensure_frame (seqs r.seq) frame) 0 [] (entered_at r.seq frame w) c1
           → Follows seq frame rs st (after_ensure r st c c1) o → Follows seq frame (r ∷ rs) st (pends c) o
+
+  -- what a run goes on with where its next row does this with what is pending
+  abbrev pub Met : Routine → Frame → CatchRow → List CatchRow → List Value → Outcome → Outcome → Meet → Type 0
+  Met seq frame r rs st c o passes = Follows seq frame rs st (pends c) o
+  Met seq frame r rs st c o (lands v w) = Runs seq frame r.cont (v ∷ cut r.sp st) w o
+  Met seq frame r rs st c o (rescues v w) =
+      (c1 : Outcome) × Runs (seqs r.seq) (rescue_frame (seqs r.seq) frame v) 0 (v ∷ []) (entered_at r.seq frame w) c1 × Follows seq frame rs st (after_rescue r st c1) o
+  Met seq frame r rs st c o (ensures w) =
+      (c1 : Outcome) × Runs (seqs r.seq) (ensure_frame (seqs r.seq) frame) 0 [] (entered_at r.seq frame w) c1 × Follows seq frame rs st (after_ensure r st c c1) o
