@@ -3,3 +3,6 @@ pub mod FillParts
 pub mod FillStatements
 pub mod SpotsOfTexts
 pub mod Apart
+pub mod Known
+pub mod Gathering
+pub mod Housing
