@@ -26,32 +26,32 @@ pub record Housing (s : List Bytes) (L : Type 0) (K H : Sight → Type 0) (z : L
   pub shape : L
   pub is : (c : Sight) → Sound c → AllHeld c s → K c → H c × AllHeld c z
 
-abbrev pub HousedTree : Scope → Tree → Scope → Type 0
-HousedTree s t z = Housing s.locals (Shaped t) (λ c. Known top c t) (λ c. IsHoused c t) z.locals
+abbrev pub HousedTree : List Bytes → Tree → List Bytes → Type 0
+HousedTree s t z = Housing s (Shaped t) (λ c. Known top c t) (λ c. IsHoused c t) z
 
-abbrev pub HousedTrees : Scope → Trees → Scope → Type 0
-HousedTrees s ts z = Housing s.locals (TreesShaped ts) (λ c. TreesKnown top c ts) (λ c. TreesHoused c ts) z.locals
+abbrev pub HousedTrees : List Bytes → Trees → List Bytes → Type 0
+HousedTrees s ts z = Housing s (TreesShaped ts) (λ c. TreesKnown top c ts) (λ c. TreesHoused c ts) z
 
-abbrev pub HousedOther : Scope → Other → Scope → Type 0
-HousedOther s v z = Housing s.locals (OtherShaped v) (λ c. OtherKnown top c v) (λ c. OtherHoused c v) z.locals
+abbrev pub HousedOther : List Bytes → Other → List Bytes → Type 0
+HousedOther s v z = Housing s (OtherShaped v) (λ c. OtherKnown top c v) (λ c. OtherHoused c v) z
 
-abbrev pub HousedBlock : Scope → Other → Scope → Type 0
-HousedBlock s v z = Housing s.locals (BlockShaped v) (λ c. BlockKnown top v) (λ c. BlockHoused c v) z.locals
+abbrev pub HousedBlock : List Bytes → Other → List Bytes → Type 0
+HousedBlock s v z = Housing s (BlockShaped v) (λ c. BlockKnown top v) (λ c. BlockHoused c v) z
 
-abbrev pub HousedPairs : Scope → Pairs → Scope → Type 0
-HousedPairs s ps z = Housing s.locals (PairsShaped ps) (λ c. PairsKnown top c ps) (λ c. PairsHoused c ps) z.locals
+abbrev pub HousedPairs : List Bytes → Pairs → List Bytes → Type 0
+HousedPairs s ps z = Housing s (PairsShaped ps) (λ c. PairsKnown top c ps) (λ c. PairsHoused c ps) z
 
-abbrev pub HousedPieces : Scope → Pieces → Scope → Type 0
-HousedPieces s ps z = Housing s.locals (PiecesShaped ps) (λ c. PiecesKnown top c ps) (λ c. PiecesHoused c ps) z.locals
+abbrev pub HousedPieces : List Bytes → Pieces → List Bytes → Type 0
+HousedPieces s ps z = Housing s (PiecesShaped ps) (λ c. PiecesKnown top c ps) (λ c. PiecesHoused c ps) z
 
-abbrev pub HousedWhens : Scope → Whens → Scope → Type 0
-HousedWhens s ws z = Housing s.locals (WhensShaped ws) (λ c. WhensKnown top c ws) (λ c. WhensHoused c ws) z.locals
+abbrev pub HousedWhens : List Bytes → Whens → List Bytes → Type 0
+HousedWhens s ws z = Housing s (WhensShaped ws) (λ c. WhensKnown top c ws) (λ c. WhensHoused c ws) z
 
-abbrev pub HousedClauses : Scope → Rescues → Scope → Type 0
-HousedClauses s rs z = Housing s.locals (ClausesShaped rs) (λ c. ClausesKnown top c rs) (λ c. ClausesHoused c rs) z.locals
+abbrev pub HousedClauses : List Bytes → Rescues → List Bytes → Type 0
+HousedClauses s rs z = Housing s (ClausesShaped rs) (λ c. ClausesKnown top c rs) (λ c. ClausesHoused c rs) z
 
-abbrev pub HousedParams : Scope → Params → Scope → Type 0
-HousedParams s ps z = Housing s.locals (ParamsShaped ps) (λ c. ParamsKnown top c ps) (λ c. ParamsHoused c ps) z.locals
+abbrev pub HousedParams : List Bytes → Params → List Bytes → Type 0
+HousedParams s ps z = Housing s (ParamsShaped ps) (λ c. ParamsKnown top c ps) (λ c. ParamsHoused c ps) z
 
 pub still : {s : List Bytes} → Housing s ⊤ (λ c. ⊤) (λ c. ⊤) s
 still = record { shape = tt; is = λ c o e k. (tt, e) }
@@ -82,34 +82,34 @@ held_first c x s h e y i = one_holds (same y x) (is_in y s) (held_same c x y h) 
 pub name_housed : {s : List Bytes} (x : Bytes) → Housing s ⊤ (λ c. Held c x) (λ c. Held c x) (x ∷ s)
 name_housed {s} x = record { shape = tt; is = λ c o e k. (k, held_first c x s k e) }
 
-pub goal_housed : {s : Scope} (g : Goal) → Housing s.locals ⊤ (λ c. GoalHeld c g) (λ c. GoalHeld c g) (declared g s).locals
-goal_housed (to_local x) = name_housed x
-goal_housed (to_instance x) = still
-goal_housed (to_global x) = still
-goal_housed (to_constant x) = still
+pub goal_housed : (g : Goal) (s : Scope) → Housing s.locals ⊤ (λ c. GoalHeld c g) (λ c. GoalHeld c g) (declared g s).locals
+goal_housed (to_local x) s = name_housed x
+goal_housed (to_instance x) s = still
+goal_housed (to_global x) s = still
+goal_housed (to_constant x) s = still
 
 -- a local that is read
 pub local_housed : {s : List Bytes} (x : Bytes) → is_in x s ≡ true → Housing s ⊤ (λ c. ⊤) (λ c. Held c x) s
 local_housed x h = record { shape = tt; is = λ c o e k. (e x h, e) }
 
-pub read_housed : {s : Scope} (g : Goal) → Housing (declared g s).locals (FormShaped (read_form g)) (λ c. FormKnown top c (read_form g)) (λ c. FormHoused c (read_form g)) (declared g s).locals
-read_housed {s} (to_local x) = local_housed x (or_left (same x x) (is_in x s.locals) (itself x))
-read_housed (to_instance x) = still
-read_housed (to_global x) = still
-read_housed (to_constant x) = still
+pub read_housed : (g : Goal) (s : Scope) → Housing (declared g s).locals (FormShaped (read_form g)) (λ c. FormKnown top c (read_form g)) (λ c. FormHoused c (read_form g)) (declared g s).locals
+read_housed (to_local x) s = local_housed x (or_left (same x x) (is_in x s.locals) (itself x))
+read_housed (to_instance x) s = still
+read_housed (to_global x) s = still
+read_housed (to_constant x) s = still
 
 -- Parts that the tree does not have.
 
 pub without_block : {s y z : List Bytes} {L : Type 0} {K H : Sight → Type 0} (v b : Other) → (if is_there v then true else is_there b) ≡ false → Housing s (BlockShaped b) (λ c. BlockKnown top b) (λ c. BlockHoused c b) y → Housing y L K H z → Housing s L K H z
 without_block without without h a b = record { shape = b.shape; is = λ c o e k. b.is c o (a.is c o e tt).1 k }
-without_block (with t) b h = absurd cc
-without_block without (with t) h = absurd cc
+without_block (with t) v h a b = absurd cc
+without_block without (with t) h a b = absurd cc
 
 pub alone_given : {s y x z : List Bytes} {L : Type 0} {K H : Sight → Type 0} (v b : Other) → (if is_there v then true else is_there b) ≡ false →
     Housing s L K H y → Housing y (OtherShaped v) (λ c. OtherKnown top c v) (λ c. OtherHoused c v) x → Housing x (BlockShaped b) (λ c. BlockKnown top b) (λ c. BlockHoused c b) z → Housing s L K H z
 alone_given without without h a d b = record { shape = a.shape; is = λ c o e k. let m = a.is c o e k in (m.0, (b.is c o (d.is c o m.1 tt).1 tt).1) }
-alone_given (with t) b h = absurd cc
-alone_given without (with t) h = absurd cc
+alone_given (with t) v h a d b = absurd cc
+alone_given without (with t) h a d b = absurd cc
 
 pub symbol_gone : {s z : List Bytes} (a : Tree) (m : Bytes) → symbol_of a ≡ Some m → Housing s (Shaped a) (λ c. Known top c a) (λ c. IsHoused c a) z → Housing s ⊤ (λ c. ⊤) (λ c. ⊤) z
 symbol_gone (at o (symbol f)) m h a = record { shape = tt; is = λ c o e k. (tt, (a.is c o e tt).1) }
@@ -119,19 +119,22 @@ symbol_gone (at o f) m h a = absurd cc
 
 left_over : (x : Bytes) (others xs : List Bytes) → is_in x others ≡ false → is_in x xs ≡ true → is_in x (without_names others xs) ≡ true
 left_over x others [] n e = e
-left_over x others (y ∷ xs) n e = step (is_in y others) (same x y) refl refl e
+left_over x others (y ∷ xs) n e = step (left_over x others xs n) (is_in y others) (same x y) refl refl e
   where
-    step : (b d : Bool) → is_in y others ≡ b → same x y ≡ d → (d || is_in x xs) ≡ true → is_in x (cond b (without_names others xs) (y ∷ without_names others xs)) ≡ true
-    step true true i j e = let bad : false ≡ true = sym n ∙ ap (λ z. is_in z others) (same_is x y j) ∙ i in absurd cc
-    step true false i j e = left_over x others xs n e
-    step false true i j e = or_left (same x y) (is_in x (without_names others xs)) j
-    step false false i j e = or_right (same x y) (is_in x (without_names others xs)) (left_over x others xs n e)
+    step : (is_in x xs ≡ true → is_in x (without_names others xs) ≡ true) → (b d : Bool) → is_in y others ≡ b → same x y ≡ d → (d || is_in x xs) ≡ true → is_in x (cond b (without_names others xs) (y ∷ without_names others xs)) ≡ true
+    step go true true i j e = let bad : false ≡ true = sym n ∙ ap (λ z. is_in z others) (same_is x y j) ∙ i in absurd cc
+    step go true false i j e = go e
+    step go false true i j e = or_left (same x y) (is_in x (without_names others xs)) j
+    step go false false i j e = or_right (same x y) (is_in x (without_names others xs)) (go e)
 
 -- What a body's tree sets is held by its locals, or outside them.
 pub locals_held : (t : Tree) (seen : List Bytes) (outer : Scopes) → ((x : Bytes) → is_in x seen ≡ true → is_held x outer ≡ true) → (x : Bytes) → is_in x (names_in (of_tree top t (so_far []))) ≡ true → is_held x (locals_of seen t ∷ outer) ≡ true
 locals_held t seen outer h x e = by (is_in x (ps ++ seen)) refl
   where
+    ps : List Bytes
     ps = names_of_params (params_of t)
+
+    xs : List Bytes
     xs = without_names (ps ++ seen) (names_in (of_tree top t (so_far [])))
 
     here : is_in x ps ≡ true → is_held x (locals_of seen t ∷ outer) ≡ true
@@ -143,9 +146,6 @@ locals_held t seen outer h x e = by (is_in x (ps ++ seen)) refl
 
 -- In sight within a body that has these names, all that it sets is known, and each block in it sees held names.
 module _ (b : Tree) (seen names : List Bytes) (outer : Scopes) (l : Shaped b) (far : Absent top (places b)) (sets : (x : Bytes) → is_in x (names_in (of_tree top b (so_far []))) ≡ true → is_held x (names ∷ outer) ≡ true) (around : (x : Bytes) → is_in x seen ≡ true → is_held x outer ≡ true) where
-  within : Sight
-  within = record { body = b; seen = seen; scopes = names ∷ outer }
-
   pub all_known : Known top (record { body = b; seen = seen; scopes = names ∷ outer }) b
   all_known = let r = (tree_part (record { body = b; seen = seen; scopes = names ∷ outer }) top top b l far).runs [] in r.known (λ x e. sets x (ap (λ g. is_in x (names_in g)) r.is ∙ e))
 
@@ -154,7 +154,7 @@ module _ (b : Tree) (seen names : List Bytes) (outer : Scopes) (l : Shaped b) (f
       let c : Sight = record { body = b; seen = seen; scopes = names ∷ outer } in
       held_both c (names_in (of_tree q b (so_far []))) seen ((tree_part c top q b l far).within all_known (so_far []) (λ x e. absurd cc)) (λ x e. or_right (is_in x names) (is_held x outer) (around x e))
 
-pub block_housed : {s y z : Scope} (o : SourcePosition) (ps : Params) (a : Tree) → HousedParams s ps y → HousedTree y a z → HousedBlock s (with (at o (body ps a))) s
+pub block_housed : {s y z : List Bytes} (o : SourcePosition) (ps : Params) (a : Tree) → HousedParams s ps y → HousedTree y a z → HousedBlock s (with (at o (body ps a))) s
 block_housed o ps a h i =
     let b = at o (body ps a) in
     let n = h ⊕ i in
@@ -170,7 +170,7 @@ block_housed o ps a h i =
 nothing_seen : (outer : Scopes) (x : Bytes) → is_in x [] ≡ true → is_held x outer ≡ true
 nothing_seen outer x e = absurd cc
 
-pub body_housed : {s : List Bytes} {y z : Scope} (o : SourcePosition) (ps : Params) (a : Tree) → Housing [] (ParamsShaped ps) (λ c. ParamsKnown top c ps) (λ c. ParamsHoused c ps) y.locals → HousedTree y a z → Housing s ⊤ (λ c. Absent top (places (at o (body ps a)))) (λ c. IsHoused (body_sight (at o (body ps a))) (at o (body ps a))) s
+pub body_housed : {s y z : List Bytes} (o : SourcePosition) (ps : Params) (a : Tree) → HousedParams [] ps y → HousedTree y a z → Housing s ⊤ (λ c. Absent top (places (at o (body ps a)))) (λ c. IsHoused (body_sight (at o (body ps a))) (at o (body ps a))) s
 body_housed o ps a h i =
     let b = at o (body ps a) in
     let n = h ⊕ i in
