@@ -6,3 +6,4 @@ pub mod Apart
 pub mod Known
 pub mod Gathering
 pub mod Housing
+pub mod HousedParts
