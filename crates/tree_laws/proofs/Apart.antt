@@ -51,12 +51,12 @@ once_of : (p n to : ℕ) → Sole p n 0 to → n ≤ 1
 once_of p n to (inl h) = omega (arith, h)
 once_of p n to (inr h) = omega (arith, h.0)
 
-none_of : (p n to : ℕ) → to ≤ p → Sole p n 0 to → n ≡ 0
+pub none_of : (p n to : ℕ) → to ≤ p → Sole p n 0 to → n ≡ 0
 none_of p n to less (inl h) = h
 none_of p n to less (inr h) = absurd (omega (arith, less, h.1.1))
 
 module _ (source : Bytes) (t : Tree) (R : Reads source t) where
-  counted : (p : ℕ) → count p (places t) ≤ spots p R.tokens
+  pub counted : (p : ℕ) → count p (places t) ≤ spots p R.tokens
   counted p =
       let a = (filling p (before_end source) R.derived.depth).stmts {most = spots p R.tokens} {l = 0} R.derived.derived (record { holds = omega arith }) in
       omega (arith, a.part.holds, a.rest.holds)

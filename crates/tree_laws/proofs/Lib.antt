@@ -7,3 +7,5 @@ pub mod Known
 pub mod Gathering
 pub mod Housing
 pub mod HousedParts
+pub mod HousedStatements
+pub mod LocalsHeld
