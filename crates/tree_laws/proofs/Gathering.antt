@@ -1,5 +1,5 @@
 -- The names that are gathered of a body: all that its tree sets, and up to any place none but those.
-use Rattle.std.proofs.Common.{◌≡◌, ◌∙◌, ℕ, ◌+◌, Bool, true, false, cond, nat_eq, nat_le, ◌||◌, List, [], ◌∷◌, ◌++◌, Option, Some, None, refl, sym, ap, arith}
+use Rattle.std.proofs.Common.{◌≡◌, ◌∙◌, ℕ, Bool, true, false, cond, nat_eq, nat_le, ◌||◌, List, [], ◌∷◌, ◌++◌, Option, Some, None, refl, sym, ap, arith}
 use Rattle.std.specs.Prelude.{⊤}
 use Rattle.std.proofs.lemmas.List.Folds.{list_any-append}
 use Rattle.std.proofs.lemmas.Bool.{eq-eqb, eqb-true}
@@ -10,8 +10,8 @@ use Rattle.ruby_tree.specs.Tree.{Goal, to_local, to_instance, to_global, to_cons
 use Rattle.ruby_meaning.specs.Locals.{place_of, place_of_other, Gathered, so_far, reached, names_in, Gather, with_local, at_block, in_two, by_place, by_places, of_goal, of_goals, of_name, of_block, of_tree, of_form, of_trees, of_other, of_pairs, of_pieces, of_whens, of_clauses, of_params}
 use Rattle.ruby_meaning.specs.Sequences.{places, form_places, trees_places, other_places, pairs_places, pieces_places, whens_places, clauses_places, params_places}
 use Rattle.ruby_meaning.specs.Levels.{Sight, is_held, Held, GoalHeld, GoalsHeld, NameHeld}
-use Rattle.tree_laws.proofs.Spots.{one_at, count, on}
-use Rattle.tree_laws.proofs.Known.{Absent, is_body, Shaped, FormShaped, TreesShaped, OtherShaped, BlockShaped, PairsShaped, PiecesShaped, WhensShaped, ClausesShaped, ParamsShaped, BlockKnown, Known, FormKnown, TreesKnown, OtherKnown, PairsKnown, PiecesKnown, WhensKnown, ClausesKnown, ParamsKnown}
+use Rattle.tree_laws.proofs.Spots.{on}
+use Rattle.tree_laws.proofs.Known.{Absent, Shaped, FormShaped, TreesShaped, OtherShaped, BlockShaped, PairsShaped, PiecesShaped, WhensShaped, ClausesShaped, ParamsShaped, BlockKnown, Known, FormKnown, TreesKnown, OtherKnown, PairsKnown, PiecesKnown, WhensKnown, ClausesKnown, ParamsKnown}
 
 pub same_is : (f g : Bytes) → same f g ≡ true → f ≡ g
 same_is f g h = (slice_eq-Decides Decides-eqb f g (same f g) refl).0 h
@@ -201,7 +201,7 @@ module _ (c : Sight) (top q : ℕ) where
     form_part p (both a b) l h = (tree_part a l.0 ⊗ tree_part b l.1) h
     form_part p (either a b) l h = (tree_part a l.0 ⊗ tree_part b l.1) h
     form_part p (negated a) l h = tree_part a l h
-    form_part p (if_else t a b) l h = 
+    form_part p (if_else t a b) l h =
         let others = places a ++ other_places b in let i = rest (places t) h in
         three (place_of t) (place_of a) (place_of_other b) (tree_part t l.0 (first others h)) (tree_part a l.1.0 (first (other_places b) i)) (other_part b l.1.1 (rest (places a) i))
     form_part p (while_loop a t u e) l h = two (place_of a) (place_of t) (tree_part a l.0 (first (places t) h)) (tree_part t l.1 (rest (places a) h))
@@ -211,7 +211,7 @@ module _ (c : Sight) (top q : ℕ) where
     form_part p (break_with ts) l h = trees_part ts l h
     form_part p (next_with ts) l h = trees_part ts l h
     form_part p retry l h = none
-    form_part p (rescue a e t) l h = 
+    form_part p (rescue a e t) l h =
         let others = other_places e ++ places t in let i = rest (places a) h in
         turned (λ k. (k.0, (k.1.1, k.1.0))) (λ k. (k.0, (k.1.1, k.1.0)))
         (three (place_of a) (place_of t) (place_of_other e) (tree_part a l.0 (first others h)) (tree_part t l.1.1 (rest (other_places e) i)) (other_part e l.1.0 (first (places t) i)))

@@ -1,5 +1,5 @@
 -- Each local is held where it stands: lists, bodies and operands.
-use Rattle.std.proofs.Common.{◌≡◌, ℕ, Bool, true, false, List, [], ◌∷◌, if◌then◌else◌, ◌&&◌, codes, Option, Some, None, refl}
+use Rattle.std.proofs.Common.{ℕ, Bool, true, false, List, [], ◌∷◌, if◌then◌else◌, ◌&&◌, codes, Option, refl}
 use Rattle.std.specs.Prelude.{⊤}
 use Rattle.ruby_lexer.specs.Bytes.{Bytes, same}
 use Rattle.ruby_lexer.specs.Pieces.{Parts, Toks}

@@ -2,7 +2,7 @@
 use Rattle.std.proofs.Common.{ℕ, zero, suc, Bool, List, codes}
 use Rattle.ruby_lexer.specs.Bytes.{Bytes}
 use Rattle.ruby_lexer.specs.Pieces.{Toks}
-use Rattle.ruby_tree.specs.Tree.{SourcePosition, Goal, Tree, at, Trees}
+use Rattle.ruby_tree.specs.Tree.{SourcePosition, Tree, Trees}
 use Rattle.ruby_tree.specs.Rules.{Scope, DoBlockOwner, next, position_with, mark_in, is_mark, product_marks, sum_marks, shift_marks, intersection_marks, union_marks, order_marks}
 use Rattle.ruby_tree.specs.Build.{sent, binary, conjunction, disjunction, one, rescued}
 use Rattle.ruby_tree.specs.Grammar.{Rel, Rels, derives, UnaryOperand, Power, Minus, Rest, Chain, Product, Sum, Shift, Intersection, Union, Order, Equality, Conjunction, Disjunction, Range, Conditional, Values, Command, Value, Unset, Arg, CommandOrArg, Test, Tests, Expr, Head, Modifiers, Stmt, StmtList, Stmts}

@@ -1,15 +1,15 @@
 -- What is said of a part of the grammar: where the locals before it are held and what it sets is, too, it is housed, and the locals behind it
 -- are held.
-use Rattle.std.proofs.Common.{◌≡◌, ◌∙◌, ℕ, ◌^◌, Bool, true, false, cond, ◌||◌, if◌then◌else◌, List, [], ◌∷◌, ◌++◌, Option, Some, None, codes, refl, sym, ap}
+use Rattle.std.proofs.Common.{◌≡◌, ◌∙◌, ℕ, ◌^◌, Bool, true, false, cond, ◌||◌, if◌then◌else◌, List, [], ◌∷◌, ◌++◌, Some, refl, sym, ap}
 use Rattle.std.specs.Prelude.{⊤}
 use Rattle.std.proofs.lemmas.List.Folds.{list_any-append}
 use Rattle.ruby_lexer.specs.Bytes.{Bytes, same, is_in}
 use Rattle.ruby_tree.specs.Tree.{SourcePosition, Goal, to_local, to_instance, to_global, to_constant, Tree, at, symbol, body, Trees, Other, without, with, Pairs, Pieces, Whens, Rescues, Params}
-use Rattle.ruby_tree.specs.Rules.{Scope, declare, declared}
-use Rattle.ruby_tree.specs.Build.{Given, is_there, symbol_of, read_form}
+use Rattle.ruby_tree.specs.Rules.{Scope, declared}
+use Rattle.ruby_tree.specs.Build.{is_there, symbol_of, read_form}
 use Rattle.ruby_meaning.specs.Locals.{place_of, params_of, names_of_params, so_far, names_in, of_tree, without_names, locals_of, seen_by}
 use Rattle.ruby_meaning.specs.Sequences.{places}
-use Rattle.ruby_meaning.specs.Levels.{Scopes, is_held, Sight, body_sight, block_sight, names_seen, Held, GoalHeld, NameHeld, IsHoused, FormHoused, BlockHoused, TreesHoused, OtherHoused, PairsHoused, PiecesHoused, WhensHoused, ClausesHoused, ParamsHoused}
+use Rattle.ruby_meaning.specs.Levels.{Scopes, is_held, Sight, body_sight, block_sight, names_seen, Held, GoalHeld, IsHoused, FormHoused, BlockHoused, TreesHoused, OtherHoused, PairsHoused, PiecesHoused, WhensHoused, ClausesHoused, ParamsHoused}
 use Rattle.tree_laws.proofs.Known.{Absent, Shaped, FormShaped, TreesShaped, OtherShaped, BlockShaped, PairsShaped, PiecesShaped, WhensShaped, ClausesShaped, ParamsShaped, BlockKnown, Known, FormKnown, TreesKnown, OtherKnown, PairsKnown, PiecesKnown, WhensKnown, ClausesKnown, ParamsKnown}
 use Rattle.tree_laws.proofs.Gathering.{same_is, itself, or_left, or_right, one_holds, AllHeld, held_same, held_both, tree_part}
 

@@ -1,19 +1,18 @@
 -- Each local that is read or set in a text's tree is held where it stands.
-use Rattle.std.proofs.Common.{◌≡◌, ℕ, zero, suc, ◌≤◌, true, List, [], ◌∷◌, length, take, arith}
-use Rattle.ruby_lexer.specs.Bytes.{Bytes, is_in}
+use Rattle.std.proofs.Common.{ℕ, zero, suc, ◌≤◌, true, List, [], ◌∷◌, length, take, arith}
+use Rattle.ruby_lexer.specs.Bytes.{Bytes}
 use Rattle.ruby_lexer.specs.Tokens.{end_length, before_end}
 use Rattle.ruby_tree.specs.Tree.{Tree}
 use Rattle.ruby_tree.specs.Reading.{Reads}
 use Rattle.ruby_meaning.specs.Locals.{locals_of}
 use Rattle.ruby_meaning.specs.Sequences.{places}
 use Rattle.ruby_meaning.specs.Loads.{file_body}
-use Rattle.ruby_meaning.specs.Levels.{is_held, file_sight, IsHoused}
+use Rattle.ruby_meaning.specs.Levels.{file_sight, IsHoused}
 use Rattle.tree_laws.proofs.Spots.{spots}
 use Rattle.tree_laws.proofs.SpotsOfTexts.{tokens_sole}
 use Rattle.tree_laws.proofs.Apart.{counted, none_of}
 use Rattle.tree_laws.proofs.Known.{Absent}
-use Rattle.tree_laws.proofs.Gathering.{AllHeld}
-use Rattle.tree_laws.proofs.Housing.{top, still, ◌⊕◌, HousedTree, Sound, all_known, is_sound, locals_held}
+use Rattle.tree_laws.proofs.Housing.{top, HousedTree, all_known, is_sound, locals_held}
 use Rattle.tree_laws.proofs.HousedStatements.{houses}
 
 take_shorter : (n : ℕ) (xs : List ℕ) → length (take n xs) ≤ length xs
