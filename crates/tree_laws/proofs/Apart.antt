@@ -1,5 +1,5 @@
 -- The sequences of a text's tree begin at places of their own, within the text.
-use Rattle.std.proofs.Common.{◌≡◌, ℕ, zero, suc, ◌≤◌, ◌<◌, Bool, true, false, cond, nat_eq, List, [], ◌∷◌, length, ◌⊎◌, inl, inr, refl, ap, arith}
+use Rattle.std.proofs.Common.{◌≡◌, ℕ, zero, suc, ◌≤◌, ◌<◌, false, nat_eq, List, [], ◌∷◌, length, ◌⊎◌, inl, inr, refl, ap, arith}
 use Rattle.std.specs.List.{IsDistinct, AllByRecursion}
 use Rattle.std.proofs.lemmas.Bool.{eq-eqb}
 use Rattle.ruby_lexer.specs.Bytes.{Bytes}
@@ -7,16 +7,9 @@ use Rattle.ruby_lexer.specs.Tokens.{before_end}
 use Rattle.ruby_tree.specs.Tree.{Tree}
 use Rattle.ruby_tree.specs.Reading.{Reads}
 use Rattle.ruby_meaning.specs.Sequences.{places}
-use Rattle.tree_laws.proofs.Spots.{one_at, count, spots}
+use Rattle.tree_laws.proofs.Spots.{one_if, one_at, zero_false, count, spots}
 use Rattle.tree_laws.proofs.FillStatements.{filling}
 use Rattle.tree_laws.proofs.SpotsOfTexts.{Sole, tokens_sole}
-
-abbrev one_if : Bool → ℕ
-one_if b = cond b 1 0
-
-zero_false : (b : Bool) → one_if b ≡ 0 → b ≡ false
-zero_false true e = absurd (omega (arith, e))
-zero_false false e = refl
 
 itself : (x : ℕ) → one_at x x ≡ 1
 itself x = ap one_if (eq-eqb x x refl)

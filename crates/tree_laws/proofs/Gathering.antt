@@ -10,7 +10,7 @@ use Rattle.ruby_tree.specs.Tree.{Goal, to_local, to_instance, to_global, to_cons
 use Rattle.ruby_meaning.specs.Locals.{place_of, place_of_other, Gathered, so_far, reached, names_in, Gather, with_local, at_block, in_two, by_place, by_places, of_goal, of_goals, of_name, of_block, of_tree, of_form, of_trees, of_other, of_pairs, of_pieces, of_whens, of_clauses, of_params}
 use Rattle.ruby_meaning.specs.Sequences.{places, form_places, trees_places, other_places, pairs_places, pieces_places, whens_places, clauses_places, params_places}
 use Rattle.ruby_meaning.specs.Levels.{Sight, is_held, Held, GoalHeld, GoalsHeld, NameHeld}
-use Rattle.tree_laws.proofs.Spots.{on}
+use Rattle.tree_laws.proofs.Spots.{zero_false, on}
 use Rattle.tree_laws.proofs.Known.{Absent, Shaped, FormShaped, TreesShaped, OtherShaped, BlockShaped, PairsShaped, PiecesShaped, WhensShaped, ClausesShaped, ParamsShaped, BlockKnown, Known, FormKnown, TreesKnown, OtherKnown, PairsKnown, PiecesKnown, WhensKnown, ClausesKnown, ParamsKnown}
 
 pub same_is : (f g : Bytes) → same f g ≡ true → f ≡ g
@@ -117,13 +117,6 @@ module _ {c : Sight} where
   optional_part None = none
   optional_part (Some x) = name_part x
 
-abbrev one_if : Bool → ℕ
-one_if b = cond b 1 0
-
-not_one : (b : Bool) → one_if b ≡ 0 → b ≡ false
-not_one true e = absurd (omega (arith, e))
-not_one false e = refl
-
 turned_about : (p r : ℕ) (b : Bool) → nat_eq r p ≡ b → nat_eq p r ≡ false → b ≡ false
 turned_about p r true e h = sym (eq-eqb p r (sym (eqb-true r p e))) ∙ h
 turned_about p r false e h = refl
@@ -153,7 +146,7 @@ module _ (c : Sight) (top q : ℕ) where
   block_part without s h = none
   block_part (with (at o (body ps a))) s h =
       record {
-        runs = block_runs (nat_eq o.place top) (turned_about top o.place (nat_eq o.place top) refl (not_one (nat_eq top o.place) (omega (arith, h.holds)))) h;
+        runs = block_runs (nat_eq o.place top) (turned_about top o.place (nat_eq o.place top) refl (zero_false (nat_eq top o.place) (omega (arith, h.holds)))) h;
         within = λ k. block_within (nat_eq o.place q);
       }
   block_part (with (at o f)) s h = absurd cc
