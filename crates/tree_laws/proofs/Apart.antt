@@ -67,7 +67,7 @@ module _ (source : Bytes) (t : Tree) (R : Reads source t) where
   unfolding before_end
   short = omega (arith, length-take (end_length true source) source, R.are_tokens.is_text.short)
 
-  beyond : (p : ℕ) → 2 ^ 64 ≤ p → length (before_end source) ≤ p
+  pub beyond : (p : ℕ) → 2 ^ 64 ≤ p → length (before_end source) ≤ p
   beyond p h = omega (arith, short)
 
   pub places_small : AllByRecursion (λ p. p < 2 ^ 64) (places t)

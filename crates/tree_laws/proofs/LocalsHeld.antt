@@ -1,7 +1,7 @@
 -- Each local that is read or set in a text's tree is held where it stands.
-use Rattle.std.proofs.Common.{ℕ, zero, suc, ◌≤◌, true, List, [], ◌∷◌, length, take, arith}
+use Rattle.std.proofs.Common.{[], length, arith}
 use Rattle.ruby_lexer.specs.Bytes.{Bytes}
-use Rattle.ruby_lexer.specs.Tokens.{end_length, before_end}
+use Rattle.ruby_lexer.specs.Tokens.{before_end}
 use Rattle.ruby_tree.specs.Tree.{Tree}
 use Rattle.ruby_tree.specs.Reading.{Reads}
 use Rattle.ruby_meaning.specs.Locals.{locals_of}
@@ -10,24 +10,14 @@ use Rattle.ruby_meaning.specs.Loads.{file_body}
 use Rattle.ruby_meaning.specs.Levels.{file_sight, IsHoused}
 use Rattle.tree_laws.proofs.Spots.{spots}
 use Rattle.tree_laws.proofs.SpotsOfTexts.{tokens_sole}
-use Rattle.tree_laws.proofs.Apart.{counted, none_of}
+use Rattle.tree_laws.proofs.Apart.{counted, none_of, beyond}
 use Rattle.tree_laws.proofs.Known.{Absent}
 use Rattle.tree_laws.proofs.Housing.{top, HousedTree, all_known, is_sound, locals_held}
 use Rattle.tree_laws.proofs.HousedStatements.{houses}
 
-take_shorter : (n : ℕ) (xs : List ℕ) → length (take n xs) ≤ length xs
-take_shorter zero xs = omega arith
-take_shorter (suc n) [] = omega arith
-take_shorter (suc n) (x ∷ xs) = omega (arith, take_shorter n xs)
-
--- a text has far fewer bytes
-shorter : (source : Bytes) → length source ≤ 4194304 → length (before_end source) ≤ top
-unfolding before_end
-shorter source h = omega (arith, h, take_shorter (end_length true source) source)
-
 module _ (source : Bytes) (t : Tree) (R : Reads source t) where
   far : Absent top (places t)
-  far = record { holds = omega (arith, counted source t R top, none_of top (spots top R.tokens) (length (before_end source)) (shorter source R.are_tokens.is_text.short) (tokens_sole top source R.tokens R.are_tokens)) }
+  far = record { holds = omega (arith, counted source t R top, none_of top (spots top R.tokens) (length (before_end source)) (beyond source t R top (omega arith)) (tokens_sole top source R.tokens R.are_tokens)) }
 
   far_from_file : Absent top (places (file_body t))
   far_from_file = record { holds = omega (arith, far.holds) }
