@@ -306,7 +306,7 @@ module _ (files : Files) (b : Tree → Frame → Run) (seqs : ℕ → Routine) (
   act kind frame p st w l Dup = with_top st (λ v rest. goes (p + 1) (v ∷ (v ∷ rest)) w)
   act kind frame p st w l Swap = with_top st (λ v st1. with_top st1 (λ u rest. goes (p + 1) (u ∷ (v ∷ rest)) w))
   act kind frame p st w l (TopN n) = with_item n st (λ v. goes (p + 1) (v ∷ st) w)
-  act kind frame p st w l (SetN n) = with_top st (λ v rest. goes (p + 1) (put_at n v st) w)
+  act kind frame p st w l (SetN n) = with_top st (λ v rest. with_item n st (λ u. goes (p + 1) (put_at n v st) w))
   act kind frame p st w l (AdjustStack n) = with_args n [] st (λ vs rest. goes (p + 1) rest w)
   act kind frame p st w l PutNil = goes (p + 1) (nil ∷ st) w
   act kind frame p st w l PutSelf = goes (p + 1) (frame.self_value ∷ st) w
