@@ -1,1 +1,7 @@
 pub mod AlikeCalls
+pub mod After
+pub mod Stack
+pub mod Ready
+pub mod Control
+pub mod Leave
+pub mod Clauses
