@@ -1,0 +1,2 @@
+pub mod RowsOrder
+pub mod RowsTrees

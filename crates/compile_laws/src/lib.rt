@@ -1,0 +1,4 @@
+//! Compiled code does what its tree means.
+#![tactic(auto)]
+
+pub mod sound;

@@ -1,0 +1,14 @@
+//! What is compiled is sound.
+ghost use Rattle.std.specs.Prelude.{◌≡◌, ℕ, true};
+ghost use Rattle.ruby_tree.specs.Tree.{Tree};
+ghost use Rattle.code_meaning.specs.Code.{rows_of};
+ghost use Rattle.compile_table.specs.Order.{are_in_order};
+ghost use Rattle.compile_table.specs.Shapes.{Where, shape};
+ghost use Rattle.compile_laws.specs.Rising.{Rises};
+
+/// The rows of a body are in order: by their ends, then the inner ones first, then by the numbers of
+/// their sequences, a break row before a next row and both last. It holds where the clauses of nested
+/// rescue parts are numbered from the inside.
+pub fn rows_are_in_order()
+    ensures { (l : Where) (t : Tree) (h p : ℕ) → Rises l.places t → are_in_order (rows_of h p (shape l t)) ≡ true }
+{}
