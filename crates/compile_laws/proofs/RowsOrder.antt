@@ -1,9 +1,10 @@
 -- Code whose held parts are tidy has its rows in order.
 use Rattle.std.proofs.Common.{◌≡◌, ℕ, zero, suc, ◌+◌, ◌≤◌, ◌<◌, ◌⊎◌, inl, inr, true, cond, ◌&&◌, refl, sym, subst, ap, ◌∙◌, arith, List, [], ◌∷◌, ◌++◌, ◌-◌, append_assoc}
-use Rattle.std.specs.Prelude.{nat_lt, nat_eq, ⊤}
+use Rattle.std.specs.Prelude.{All, nat_lt, nat_eq, ⊤}
 use Rattle.std.proofs.lemmas.Bool.{lt-ltb, eq-eqb, ne_eqb}
 use Rattle.iseq_types.specs.declared.sequences.CatchKind.{CatchKind}
 use Rattle.iseq_types.specs.declared.sequences.CatchRow.{CatchRow}
+use Rattle.iseq_types.specs.Sound.{IsOrdered}
 use Rattle.code_meaning.specs.Code.{row_over, Shape, done, op, ahead, behind, deep, part, held, size, finish, rows_of}
 use Rattle.code_meaning.proofs.Sizes.{finish_size}
 use Rattle.compile_table.specs.Order.{stands_by_kind, stands_before, are_in_order}
@@ -11,6 +12,11 @@ use Rattle.compile_table.specs.Order.{stands_by_kind, stands_before, are_in_orde
 abbrev pub Every : (CatchRow → Type 0) → List CatchRow → Type 0
 Every Q [] = ⊤
 Every Q (r ∷ rs) = Q r × Every Q rs
+
+every_all : (Q : CatchRow → Type 0) (xs : List CatchRow) → Every Q xs → All Q xs
+every_all Q [] e k d less = absurd (omega (arith, less))
+every_all Q (x ∷ xs) e zero d less = e.0
+every_all Q (x ∷ xs) e (suc k) d less = every_all Q xs e.1 k d (omega (arith, less))
 
 every_both : (Q : CatchRow → Type 0) (xs ys : List CatchRow) → Every Q xs → Every Q ys → Every Q (xs ++ ys)
 every_both Q [] ys a b = b
@@ -35,7 +41,7 @@ sorted_in_order (a ∷ []) e = refl
 sorted_in_order (a ∷ b ∷ rs) e = ap (λ x. x && are_in_order (b ∷ rs)) e.0.0 ∙ sorted_in_order (b ∷ rs) e.1
 
 -- the row lies from one place to another and is not empty
-abbrev Within : ℕ → ℕ → CatchRow → Type 0
+abbrev pub Within : ℕ → ℕ → CatchRow → Type 0
 Within p end x = (p ≤ x.from) × (x.from < x.to) × (x.to ≤ end)
 
 by_end : (a b : CatchRow) → a.to < b.to → stands_before a b ≡ true
@@ -78,7 +84,7 @@ later p m end xs e a = every_since (Within m end) (Within p end) xs (λ x w. (om
 shorter : (p m end : ℕ) (xs : List CatchRow) → m ≤ end → Every (Within p m) xs → Every (Within p end) xs
 shorter p m end xs e a = every_since (Within p m) (Within p end) xs (λ x w. (w.0, w.1, omega (arith, w.2))) a
 
-within : (s : Shape) (h p : ℕ) → Tidy s → Every (Within p (finish p s)) (rows_of h p s)
+pub within : (s : Shape) (h p : ℕ) → Tidy s → Every (Within p (finish p s)) (rows_of h p s)
 within done h p t = tt
 within (op l i s) h p t = later p (p + 1) (finish (p + 1) s) (rows_of h (p + 1) s) (omega arith) (within s h (p + 1) t)
 within (ahead l j n s) h p t = later p (p + 1) (finish (p + 1) s) (rows_of h (p + 1) s) (omega arith) (within s h (p + 1) t)
@@ -183,3 +189,23 @@ sorted (held k far q a s) h p t =
 
 pub rows_in_order : (s : Shape) (h p : ℕ) → Tidy s → are_in_order (rows_of h p s) ≡ true
 rows_in_order s h p t = sorted_in_order (rows_of h p s) (sorted s h p t)
+
+-- what follows a row stands at its end or later
+conts : (s : Shape) (h p : ℕ) → Every (λ x. x.to ≤ x.cont) (rows_of h p s)
+conts done h p = tt
+conts (op l i s) h p = conts s h (p + 1)
+conts (ahead l j n s) h p = conts s h (p + 1)
+conts (behind l j n s) h p = conts s h (p + 1)
+conts (deep l j s) h p = conts s h (p + 1)
+conts (part d a s) h p = every_both (λ x. x.to ≤ x.cont) (rows_of (h + d) p a) (rows_of h (finish p a) s) (conts a (h + d) p) (conts s h (finish p a))
+conts (held k far q a s) h p =
+    every_both (λ x. x.to ≤ x.cont) (rows_of h p a) (row_over k h p (finish p a) far q ∷ rows_of h (finish p a) s) (conts a h p) (omega arith, conts s h (finish p a))
+
+pub rows_ordered : (s : Shape) (h p : ℕ) → Tidy s → All IsOrdered (rows_of h p s)
+rows_ordered s h p t =
+    every_all IsOrdered (rows_of h p s)
+    (every_since (λ x. Within p (finish p s) x × (x.to ≤ x.cont)) IsOrdered (rows_of h p s) (λ x w. (w.0.1, w.1)) (every_pair (Within p (finish p s)) (λ x. x.to ≤ x.cont) (rows_of h p s) (within s h p t) (conts s h p)))
+
+pub rows_inside : (s : Shape) (h p : ℕ) → Tidy s → All (λ x. (p ≤ x.from) × (x.to ≤ finish p s)) (rows_of h p s)
+rows_inside s h p t =
+    every_all (λ x. (p ≤ x.from) × (x.to ≤ finish p s)) (rows_of h p s) (every_since (Within p (finish p s)) (λ x. (p ≤ x.from) × (x.to ≤ finish p s)) (rows_of h p s) (λ x w. (w.0, w.2)) (within s h p t))

@@ -1,5 +1,6 @@
 -- The code of each tree is tidy.
-use Rattle.std.proofs.Common.{◌≡◌, ℕ, suc, ◌+◌, ◌<◌, Bool, true, false, refl, arith, List, [], ◌∷◌, length, Option, Some, None}
+use Rattle.std.proofs.Common.{◌≡◌, ℕ, suc, ◌+◌, ◌≤◌, ◌<◌, Bool, true, false, refl, arith, List, [], ◌∷◌, length, Option, Some, None}
+use Rattle.std.specs.Prelude.{All}
 use Rattle.std.proofs.lemmas.Bool.{lt-ltb}
 use Rattle.ruby_tree.specs.Tree.{Goal, Tree, at, nil_value, true_value, false_value, integer, symbol, text, self_value, file_name, folder_name, line_number, local, instance, global, joined, array, hash, range, constant_path, assign, assign_all, assign_attribute, assign_index, operate_attribute, or_attribute, and_attribute, operate_index, or_index, and_index, send, safe_send, yield, super, bare_super, bare_raise, statements, both, either, negated, if_else, while_loop, case_of, case_tests, return_with, break_with, next_with, retry, rescue, ensure, rescue_sequence, ensure_sequence, method, class, module_named, body, Trees, no_more, more, Other, without, with, Pairs, no_pair, pair, Pieces, no_piece, plain_piece, code_piece, Whens, no_when, when, Rescues, no_clause, clause, Params, no_param, required, optional, rest_param, block_param}
 use Rattle.ruby_tree.specs.Names.{Bytes}
@@ -8,11 +9,12 @@ use Rattle.iseq_types.specs.declared.instructions.Instr.TheVariants.{Send, Invok
 use Rattle.iseq_types.specs.declared.sequences.CatchKind.{CatchKind}
 use Rattle.iseq_types.specs.declared.sequences.CatchKind.TheVariants as catches
 use Rattle.ruby_meaning.specs.Locals.{params_of, names_of_params}
-use Rattle.code_meaning.specs.Code.{Shape, done, part, size, rows_of}
+use Rattle.iseq_types.specs.Sound.{IsOrdered}
+use Rattle.code_meaning.specs.Code.{finish, Shape, done, part, size, rows_of}
 use Rattle.compile_table.specs.Order.{are_in_order, stands_by_kind}
 use Rattle.compile_table.specs.Shapes.{Where, looped, number_of, sets, gets, named, turns, with_literal, count, own, receiver_flag, value_flag, bare_flag, self_flag, shape, params_shape, rest_shape, args_shape, pairs_shape, pieces_shape, value_shape, other_shape, last_shape, values_shape, patterns_shape, pattern_shape, cases_shape, tests_shape, test_shape, hits_shape, clauses_shape, clause_shape, classes_shape, bodies_shape}
 use Rattle.compile_laws.specs.Rising.{Protects, direct, ensured, inner, first, Rises, TreesRise, OtherRises, PairsRise, PiecesRise, WhensRise, ClausesRise, ParamsRise}
-use Rattle.compile_laws.proofs.RowsOrder.{Tops, Tidy, rows_in_order}
+use Rattle.compile_laws.proofs.RowsOrder.{rows_ordered, rows_inside, Tops, Tidy, rows_in_order}
 
 -- ---- no code is empty
 
@@ -419,3 +421,9 @@ mutual
 
 pub in_order : (l : Where) (t : Tree) (h p : ℕ) → Rises l.places t → are_in_order (rows_of h p (shape l t)) ≡ true
 in_order l t h p r = rows_in_order (shape l t) h p (tidy l t r)
+
+pub ordered : (l : Where) (t : Tree) (h p : ℕ) → Rises l.places t → All IsOrdered (rows_of h p (shape l t))
+ordered l t h p r = rows_ordered (shape l t) h p (tidy l t r)
+
+pub inside : (l : Where) (t : Tree) (h p : ℕ) → Rises l.places t → All (λ row. (p ≤ row.from) × (row.to ≤ finish p (shape l t))) (rows_of h p (shape l t))
+inside l t h p r = rows_inside (shape l t) h p (tidy l t r)

@@ -1,7 +1,8 @@
 //! What is compiled is sound.
-ghost use Rattle.std.specs.Prelude.{◌≡◌, ℕ, true};
+ghost use Rattle.std.specs.Prelude.{◌≡◌, ◌≤◌, ℕ, All, true};
 ghost use Rattle.ruby_tree.specs.Tree.{Tree};
-ghost use Rattle.code_meaning.specs.Code.{rows_of};
+ghost use Rattle.iseq_types.specs.Sound.{IsOrdered};
+ghost use Rattle.code_meaning.specs.Code.{finish, rows_of};
 ghost use Rattle.compile_table.specs.Order.{are_in_order};
 ghost use Rattle.compile_table.specs.Shapes.{Where, shape};
 ghost use Rattle.compile_laws.specs.Rising.{Rises};
@@ -11,4 +12,11 @@ ghost use Rattle.compile_laws.specs.Rising.{Rises};
 /// rescue parts are numbered from the inside.
 pub fn rows_are_in_order()
     ensures { (l : Where) (t : Tree) (h p : ℕ) → Rises l.places t → are_in_order (rows_of h p (shape l t)) ≡ true }
+{}
+
+/// The rows of a body have ranges that are not empty, go on at their ends or later, and lie inside its
+/// code.
+pub fn rows_lie_inside()
+    ensures ordered { (l : Where) (t : Tree) (h p : ℕ) → Rises l.places t → All IsOrdered (rows_of h p (shape l t)) }
+    ensures inside { (l : Where) (t : Tree) (h p : ℕ) → Rises l.places t → All (λ row. (p ≤ row.from) × (row.to ≤ finish p (shape l t))) (rows_of h p (shape l t)) }
 {}
