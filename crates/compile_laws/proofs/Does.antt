@@ -1,48 +1,40 @@
 -- The code of a tree does what the tree means.
-use Rattle.std.proofs.Common.{zero, ◌≡◌, ℕ, suc, pred, ◌+◌, ◌-◌, ◌≤◌, ◌<◌, ◌⊎◌, inl, inr, Bool, true, false, not, cond, refl, sym, subst, ap, ◌∙◌, arith, List, [], ◌∷◌, ◌++◌, length, Option, Some, None, length-append}
-use Rattle.std.specs.Prelude.{slice_get, nat_le, codes, map, ◌*◌, pos, nat_eq}
-use Rattle.bs_outside.specs.Paths.{parent_of}
+use Rattle.std.proofs.Common.{zero, ◌≡◌, ℕ, suc, ◌+◌, ◌≤◌, ◌<◌, ◌⊎◌, inl, inr, Bool, true, false, not, cond, refl, sym, subst, ap, ◌∙◌, arith, List, [], ◌∷◌, ◌++◌, length, Option, Some, None}
+use Rattle.std.specs.Prelude.{slice_get, nat_le, codes}
 use Rattle.ruby_tree.specs.Names.{Bytes}
-use Rattle.ruby_tree.specs.Tree.{SourcePosition, Goal, to_local, to_instance, to_global, to_constant, Tree, at, Form, nil_value, true_value, false_value, integer, symbol, text, self_value, file_name, folder_name, line_number, local, instance, global, joined, array, hash, range, constant_path, assign, assign_all, assign_attribute, assign_index, operate_attribute, or_attribute, and_attribute, operate_index, or_index, and_index, send, safe_send, yield, super, bare_super, bare_raise, statements, both, either, negated, if_else, while_loop, case_of, case_tests, return_with, break_with, next_with, retry, rescue, ensure, rescue_sequence, ensure_sequence, method, class, module_named, body, Trees, no_more, more, Other, without, with, Pairs, no_pair, pair, Pieces, no_piece, plain_piece, code_piece, Whens, no_when, when, Rescues, no_clause, clause, Params, no_param, required, optional, rest_param, block_param}
+use Rattle.ruby_tree.specs.Tree.{Goal, to_local, to_instance, to_global, to_constant, Tree, at, Form, self_value, Other, without, with}
 use Rattle.iseq_types.specs.declared.instructions.Instr.{Instr}
-use Rattle.iseq_types.specs.declared.instructions.Instr.TheVariants.{Pop, Dup, TopN, SetN, AdjustStack, PutNil, PutSelf, PutObject, PutString, GetLocal, SetLocal, GetInstanceVariable, SetInstanceVariable, GetGlobal, SetGlobal, SetConstant, OptGetConstantPath, NewArray, NewHash, NewRange, ConcatStrings, ObjToString, AnyToString, Send, InvokeSuper, InvokeBlock, DefineMethod, DefineClass, CheckMatch, Jump, BranchIf, BranchUnless, BranchNil, Throw, Leave, ExpandArray}
-use Rattle.iseq_types.specs.declared.instructions.Literal.TheVariants.{True, False, Int, Sym}
-use Rattle.iseq_types.specs.declared.sequences.CatchKind.TheVariants as catches
+use Rattle.iseq_types.specs.declared.instructions.Instr.TheVariants.{Pop, SetN, NewArray, Send, Jump, BranchUnless, Throw}
 use Rattle.iseq_types.specs.declared.sequences.CatchRow.{CatchRow}
-use Rattle.iseq_types.specs.declared.sequences.SeqKind.TheVariants as kinds
-use Rattle.ruby_meaning.specs.Value.{Value, nil, yes, no, number, symbol_named, object, elements, Source}
-use Rattle.ruby_meaning.specs.Numbers.{object_class, type_error, frozen_error, name_error}
+use Rattle.ruby_meaning.specs.Value.{Value, object, elements, Source}
+use Rattle.ruby_meaning.specs.Numbers.{frozen_error, name_error}
 use Rattle.ruby_meaning.specs.Natives.Messages.{no_change}
 use Rattle.ruby_meaning.specs.Constants.{innermost}
-use Rattle.ruby_meaning.specs.Store.{array_cells, string_cells, object_cells, variable_cells, cell_limit, new_object, new_string, is_true, is_a, has_name, variables_at, class_at, name_of_class_of}
-use Rattle.ruby_meaning.specs.Locals.{place_of, first_line_of, params_of, names_of_params}
+use Rattle.ruby_meaning.specs.Store.{array_cells, string_cells, object_cells, variable_cells, cell_limit, new_object, new_string, is_true, has_name, variables_at, class_at, name_of_class_of}
+use Rattle.ruby_meaning.specs.Locals.{place_of}
 use Rattle.ruby_meaning.specs.Sequences.{sequence_number}
-use Rattle.ruby_meaning.specs.World.{Given, no_block, literal_block, Running, entered, World, Frame, to_loop, Outcome, Done, Raise, Break, Next, Return, Retry, Spent, Full, Run, world_of}
-use Rattle.ruby_meaning.specs.Steps.{changing, then_do, then, reading, choose, charged, make, make_string, exception_of, raise_new, line_in, stand_in, stand, broken}
-use Rattle.ruby_meaning.specs.Calls.{enter, enter_load, is_entered, with_step, with_entry, spread, spread_from, variable_of, set_in, settable, first_cost, with_variable, no_method}
-use Rattle.ruby_meaning.specs.Blocks.{run_given}
+use Rattle.ruby_meaning.specs.World.{Given, no_block, literal_block, entered, World, Frame, to_loop, Outcome, Done, Raise, Break, Next, Return, Retry, Spent, Full, Run, world_of}
+use Rattle.ruby_meaning.specs.Steps.{changing, then_do, choose, charged, make, exception_of, raise_new, line_in, stand_in, stand, broken}
+use Rattle.ruby_meaning.specs.Calls.{enter, enter_load, is_entered, with_step, with_entry, spread, spread_from, set_in, settable, first_cost, with_variable}
 use Rattle.ruby_meaning.specs.Files.{Files}
 use Rattle.ruby_meaning.specs.Invoke.{call_method}
-use Rattle.ruby_meaning.specs.Definitions.{read_local, set_local_in, set_local, holder, read_global, fixed_global, set_global_if, with_global, name_cost, with_constant, set_goal, path_from, path_around, closure_here, with_closure, class_number, define_method}
-use Rattle.ruby_meaning.specs.Levels.{Scopes, Held, GoalHeld, GoalsHeld, NameHeld, is_held, level_of, slot_of}
-use Rattle.ruby_meaning.specs.Parts.{make_array, make_range, of_values, leave_home, leave_block, leave_loop, given_value, match_found, match_class, handling, in_sequence}
-use Rattle.ruby_meaning.specs.Evaluation.{set_by_send, loop, set_exception, with_block, send_with, super_with, super_to, run, run_form, run_all, run_trees, run_other, run_last, run_receiver, run_given_value, run_clauses, run_clause, run_classes, run_defaults}
-use Rattle.code_meaning.specs.Code.{at_line, row_over, Routine, rows_at, Shape, done, op, part, size, Placed, finish}
+use Rattle.ruby_meaning.specs.Definitions.{read_local, set_local, fixed_global, set_global_if, with_global, name_cost, with_constant, set_goal, path_from, closure_here, with_closure}
+use Rattle.ruby_meaning.specs.Levels.{Scopes, GoalHeld, is_held, level_of, slot_of}
+use Rattle.ruby_meaning.specs.Parts.{make_array, of_values, leave_block}
+use Rattle.ruby_meaning.specs.Evaluation.{set_by_send, with_block, send_with, run}
+use Rattle.code_meaning.specs.Code.{at_line, Routine, rows_at, Shape, op, Placed, finish}
 use Rattle.code_meaning.specs.Slots.{read_slot, set_slot, HaveNames}
-use Rattle.code_meaning.specs.Machine.{Step, goes, pends, answer, drops, branch, with_value, with_args, with_top, block_answer, call_answer, is_valued, is_bare, literal_given, value_given, block_given, sent, super_to_method, super_sent, act, step, rescue_frame, ensure_frame, entered_in, entered_at, Runs, Follows}
-use Rattle.code_meaning.proofs.Sizes.{finish_size}
-use Rattle.code_meaning.proofs.Placing.{placed}
+use Rattle.code_meaning.specs.Machine.{Step, goes, pends, answer, drops, branch, with_value, with_args, with_top, call_answer, is_valued, is_bare, literal_given, value_given, sent, act, entered_in, entered_at, Runs, Follows}
 use Rattle.compile_table.specs.Shapes as table
 use Rattle.compile_table.specs.Shapes.{Where, looped, line_or, line_at, own, start, count, is_self_form, self_flag, receiver_flag, value_flag, bare_flag, plain_send, number_of, with_literal, path_start, throw_by, named, in_rescue, in_ensure, get_local, shape, form_shape, params_shape, all_shape, rest_shape, args_shape, path_shape, receiver_shape, value_shape, other_shape, last_shape, values_shape, clauses_shape, clause_shape, classes_shape, bodies_shape}
-use Rattle.compile_laws.specs.Likeness.{core, with_flag}
-use Rattle.compile_laws.specs.Finds.{part_routine, body_routine, FindsBlock, Finds, FindsForm, FindsTrees, FindsOther, FindsRescue, FindsRescueForm, FindsEnsure, FindsEnsureForm, FindsClauses, FindsParams, Stands, StandsIn, entry}
-use Rattle.compile_laws.proofs.AlikeCalls.{raising_same, no_method_same, range_same, path_same, around_same, goal_same, method_defined_same, open_same, class_named_same, class_below_same, module_same, home_same, leave_same, given_same, given_block_same, call_same, super_same}
+use Rattle.compile_laws.specs.Likeness.{with_flag}
+use Rattle.compile_laws.specs.Finds.{FindsBlock}
+use Rattle.compile_laws.proofs.AlikeCalls.{leave_same, given_same, call_same}
 use Rattle.compile_laws.proofs.After.{deeper_pending, leap_ahead, Pending, After, here, go, pend, answers, after_then}
 use Rattle.compile_laws.proofs.Ready.{Ready, KeepsReady}
-use Rattle.compile_laws.proofs.Control.{emptied, Does, turn_ends, turns_run, rescues_run, ensures_run}
-use Rattle.compile_laws.proofs.Stack.{High, plus_zero, high_over, item_last, pushed, pushed_last, pushed_length, pushed_over, args_off}
-use Rattle.compile_laws.proofs.Clauses.{clauses_step, clauses_tail, named_tail}
-use Rattle.compile_laws.proofs.Leave.{enter_turns, whole_then, emptied_then, left_with, raised_end, block_ends}
+use Rattle.compile_laws.proofs.Control.{Does}
+use Rattle.compile_laws.proofs.Stack.{High, high_over, pushed, pushed_over, args_off}
+use Rattle.compile_laws.proofs.Leave.{enter_turns, block_ends}
 
 -- What the induction stands on: what every run keeps, that bodies are a fixed point, and where locals are found.
 pub record Known (files : Files) (b : Tree → Frame → Run) (top : ℕ) : Type 0 where

@@ -6,3 +6,6 @@ pub mod Control
 pub mod Leave
 pub mod Clauses
 pub mod Does
+pub mod RowsOrder
+pub mod RowsTrees
+pub mod RisingRow
