@@ -445,3 +445,392 @@ module _ (files : Files) (b : Tree → Frame → Run) (seqs : ℕ → Routine) (
       → A seq frame c (q + 1) st out (Next v z) → R seq frame c q (v ∷ st) z
   next_by true seq frame out q line c st v z e rows k = pend files b seqs bodies seq frame c q (v ∷ st) z out (Next v z) (here files b seqs bodies seq frame c q (v ∷ st) z line (Throw 3) e) rows (k (v ∷ []))
   next_by false seq frame out q line c st v z e rows k = pend files b seqs bodies seq frame c q (v ∷ st) z out (Next v z) (here files b seqs bodies seq frame c q (v ∷ st) z line (Throw 5) e) rows (k (v ∷ []))
+
+  -- A rescue sequence, in which the exception alone lies on the stack between the clauses.
+  module _ (l : Where) (seq : Routine) (frame : Frame) (c : Outcome) (first : frame.first ≡ l.first) where
+    abbrev exception_only : List Value
+    exception_only = frame.handled ∷ []
+
+    -- a class is on top: whether the exception is one of it
+    match_does : (q n n0 hit_place : ℕ) (v : Value) (z : World) (hit rest : Run) → slice_get seq.body.code q ≡ Some (at_line (line_at l n0) CheckMatch) → rows_at q seq.body.rows ≡ [] → slice_get seq.body.code (q + 1) ≡ Some (at_line (line_at l n0) (BranchIf (q + 1 + 1 + n)))
+        → q + 1 + 1 + n ≡ hit_place → (c ≡ hit z → R seq frame c hit_place exception_only z) → (c ≡ rest z → R seq frame c (q + 1 + 1) exception_only z)
+        → c ≡ match_class (with_loop l frame) n0 v hit rest z → R seq frame c q (v ∷ (frame.handled ∷ exception_only)) z
+    match_does q n n0 hit_place v z hit rest check rows turn over to_hit to_rest e = by_class (class_number z.objects v) refl e
+      where
+        stk : List Value
+        stk = v ∷ (frame.handled ∷ (frame.handled ∷ []))
+
+        checked : (k : Option ℕ) → class_number z.objects v ≡ k → step files b seqs bodies seq frame q (v ∷ (frame.handled ∷ (frame.handled ∷ []))) z ≡ answer (q + 1) (frame.handled ∷ []) (match_found frame (line_at l n0) (Done yes) (Done no) k z)
+        checked k same = here files b seqs bodies seq frame c q (v ∷ (frame.handled ∷ (frame.handled ∷ []))) z (line_at l n0) CheckMatch check ∙ ap (λ y. answer (q + 1) (frame.handled ∷ []) (match_found frame (line_at l n0) (Done yes) (Done no) y z)) same
+
+        by_kind : (k : ℕ) (x : Bool) → class_number z.objects v ≡ Some k → is_a z.objects frame.handled k ≡ x → c ≡ choose x hit rest z → R seq frame c q (v ∷ (frame.handled ∷ (frame.handled ∷ []))) z
+        by_kind k true same fits e1 =
+            go files b seqs bodies seq frame c q (v ∷ (frame.handled ∷ (frame.handled ∷ []))) z (q + 1) (yes ∷ (frame.handled ∷ [])) z (checked (Some k) same ∙ ap (λ y. answer (q + 1) (frame.handled ∷ []) (choose y (Done yes) (Done no) z)) fits)
+            (on seq frame c (q + 1) (yes ∷ (frame.handled ∷ [])) z (line_at l n0) (BranchIf (q + 1 + 1 + n)) hit_place (frame.handled ∷ []) z turn (branch_over true (q + 1) n hit_place (frame.handled ∷ []) z refl over) (to_hit e1))
+        by_kind k false same fits e1 =
+            go files b seqs bodies seq frame c q (v ∷ (frame.handled ∷ (frame.handled ∷ []))) z (q + 1) (no ∷ (frame.handled ∷ [])) z (checked (Some k) same ∙ ap (λ y. answer (q + 1) (frame.handled ∷ []) (choose y (Done yes) (Done no) z)) fits)
+            (on seq frame c (q + 1) (no ∷ (frame.handled ∷ [])) z (line_at l n0) (BranchIf (q + 1 + 1 + n)) (q + 1 + 1) (frame.handled ∷ []) z turn (branch_on false (q + 1) (q + 1 + 1 + n) (frame.handled ∷ []) z refl) (to_rest e1))
+
+        by_class : (k : Option ℕ) → class_number z.objects v ≡ k → c ≡ match_found (with_loop l frame) n0 hit rest k z → R seq frame c q (v ∷ (frame.handled ∷ (frame.handled ∷ []))) z
+        by_class None same e1 =
+            answers files b seqs bodies seq frame c q (q + 1) (v ∷ (frame.handled ∷ (frame.handled ∷ []))) (frame.handled ∷ []) (v ∷ (frame.handled ∷ [])) z [] (raise_new frame (line_at l n0) type_error (codes "class or module required for rescue clause") z) (checked None same) rows refl
+            (raised_end files b seqs bodies seq frame c (q + 1) (line_at l n0) type_error (frame.handled ∷ []) z (codes "class or module required for rescue clause") (e1 ∙ ap (λ f. f z) (raising_same (with_loop l frame) frame n0 (line_at l n0) refl (own_lines l frame first n0) type_error (codes "class or module required for rescue clause"))))
+        by_class (Some k) same e1 = by_kind k (is_a z.objects frame.handled k) same refl e1
+
+    leave_ends : (line p : ℕ) (a s : Shape) (m : Run) (z : World) → Placed seq.body.code seq.body.rows [] 1 p (part 0 a (op line Leave s)) → D l seq frame [] (1 + 0) p (finish p a) m → G l frame z → c ≡ m z → R seq frame c p exception_only z
+    leave_ends line p a s m z pl d le e =
+        d c exception_only z (record { tall = refl; bottom = λ y. refl }) le (whole_then files b seqs bodies seq frame c (finish p a) exception_only (m z) Done (e ∙ then_done (m z))
+        (λ v y eo e1. left_with files b seqs bodies seq frame c (finish p a) (v ∷ exception_only) y (Done v y) (here files b seqs bodies seq frame c (finish p a) (v ∷ exception_only) y line Leave pl.1.0) e1))
+
+    hit_ends : (x : Option Bytes) (line p : ℕ) (a s : Shape) (m : Run) (z : World) → Placed seq.body.code seq.body.rows [] 1 p (named l line x (part 0 a (op line Leave s)))
+        → ((q : ℕ) → Placed seq.body.code seq.body.rows [] (1 + 0) q a → D l seq frame [] (1 + 0) q (finish q a) m) → NameHeld l.sight x → G l frame z → c ≡ m (set_exception (with_loop l frame) x z) → R seq frame c p exception_only z
+    hit_ends None line p a s m z pl d held le e = leave_ends line p a s m z pl (d p pl.0) le e
+    hit_ends (Some x) line p a s m z pl d held le e =
+        on seq frame c p exception_only z line Dup (p + 1) (frame.handled ∷ exception_only) z pl.0 refl
+        (on seq frame c (p + 1) (frame.handled ∷ exception_only) z line (table.set_local l x) (p + 1 + 1) exception_only (set_local frame x frame.handled z) pl.2.0 (ap (λ y. goes (p + 1 + 1) exception_only y) (known.sets l.sight.scopes frame top x frame.handled z le held))
+        (leave_ends line (p + 1 + 1) a s m (set_local frame x frame.handled z) pl.2.2 (d (p + 1 + 1) pl.2.2.0) (known.locals l.sight.scopes frame top x frame.handled z le) e))
+
+
+  range_flag : (x : Bool) (seq : Routine) (frame : Frame) (p : ℕ) (v u : Value) (st : List Value) (z : World) (line : ℕ)
+      → act files b seqs bodies seq.kind frame p (v ∷ (u ∷ st)) z line (NewRange (table.open_end x)) ≡ answer (p + 1) st (make_range frame line x u v z)
+  range_flag true seq frame p v u st z line = refl
+  range_flag false seq frame p v u st z line = refl
+
+  mutual
+    pub tree_does : (t : Tree) (l : Where) (seq : Routine) (frame : Frame) (out : List CatchRow) (h p : ℕ) → StandsIn l frame → Finds seqs bodies l t → Placed seq.body.code seq.body.rows out h p (shape l t) → D l seq frame out h p (finish p (shape l t)) (run_it l frame t)
+    tree_does (at s f) l seq frame out h p sd fs pl = form_does f l s seq frame out h p sd fs pl
+
+    form_does : (f : Form) (l : Where) (s : SourcePosition) (seq : Routine) (frame : Frame) (out : List CatchRow) (h p : ℕ) → StandsIn l frame → FindsForm seqs bodies l f → Placed seq.body.code seq.body.rows out h p (form_shape l f s) → D l seq frame out h p (finish p (form_shape l f s)) (run_form files top b f s (with_loop l frame))
+    form_does nil_value l s seq frame out h p sd fs pl = λ c st w high le k. on seq frame c p st w (own l s) PutNil (p + 1) (nil ∷ st) w pl.0 refl k
+    form_does true_value l s seq frame out h p sd fs pl = λ c st w high le k. on seq frame c p st w (own l s) (PutObject True) (p + 1) (yes ∷ st) w pl.0 refl k
+    form_does false_value l s seq frame out h p sd fs pl = λ c st w high le k. on seq frame c p st w (own l s) (PutObject False) (p + 1) (no ∷ st) w pl.0 refl k
+    form_does (integer i) l s seq frame out h p sd fs pl = λ c st w high le k. on seq frame c p st w (own l s) (PutObject (Int i)) (p + 1) (number i ∷ st) w pl.0 refl k
+    form_does (symbol x) l s seq frame out h p sd fs pl = λ c st w high le k. on seq frame c p st w (own l s) (PutObject (Sym x)) (p + 1) (symbol_named x ∷ st) w pl.0 refl k
+    form_does (text x) l s seq frame out h p sd fs pl = λ c st w high le k.
+        answered seq frame c p (p + 1) st st [] w out (own l s) (PutString x) (make_string x (λ n. Done (object n)) w) (make_string x (λ n. Done (object n)) w) pl.0 pl.1 refl refl refl k
+    form_does self_value l s seq frame out h p sd fs pl = λ c st w high le k. on seq frame c p st w (own l s) PutSelf (p + 1) (frame.self_value ∷ st) w pl.0 refl k
+    form_does file_name l s seq frame out h p sd fs pl = λ c st w high le k.
+        answered seq frame c p (p + 1) st st [] w out (own l s) (PutString l.path) (make_string l.path (λ n. Done (object n)) w) (make_string frame.code.source.path (λ n. Done (object n)) w) pl.0 pl.1 refl refl (ap (λ x. make_string x (λ n. Done (object n)) w) sd.of_path) k
+    form_does folder_name l s seq frame out h p sd fs pl = λ c st w high le k.
+        answered seq frame c p (p + 1) st st [] w out (own l s) (PutString (parent_of l.path)) (make_string (parent_of l.path) (λ n. Done (object n)) w) (make_string (parent_of frame.code.source.path) (λ n. Done (object n)) w) pl.0 pl.1 refl refl (ap (λ x. make_string (parent_of x) (λ n. Done (object n)) w) sd.of_path) k
+    form_does line_number l s seq frame out h p sd fs pl = λ c st w high le k. on seq frame c p st w (own l s) (PutObject (Int (pos s.line))) (p + 1) (number (pos s.line) ∷ st) w pl.0 refl k
+    form_does (local x) l s seq frame out h p sd fs pl = λ c st w high le k.
+        on seq frame c p st w (own l s) (get_local l x) (p + 1) (read_local frame x w ∷ st) w pl.0 (ap (λ v. goes (p + 1) (v ∷ st) w) (known.reads l.sight.scopes frame top x w le fs)) k
+    form_does (instance x) l s seq frame out h p sd fs pl = λ c st w high le k. on seq frame c p st w (own l s) (GetInstanceVariable x) (p + 1) (variable_of frame.self_value x w ∷ st) w pl.0 refl k
+    form_does (global x) l s seq frame out h p sd fs pl = λ c st w high le k. on seq frame c p st w (own l s) (GetGlobal x) (p + 1) (read_global x w ∷ st) w pl.0 refl k
+    form_does (joined ps) l s seq frame out h p sd fs pl = λ c st w high le k. ?
+    form_does (array ts ks) l s seq frame out h p sd fs pl = λ c st w high le k.
+        args_does ts l seq frame out h p 0 _ sd fs pl c st [] w (finish p (form_shape l (array ts ks) s)) [] (λ vs. reading (spread ks vs) (λ us. make_array us Done)) refl refl high le
+        (λ vs q z pl1 e1 n1 b1 k1. answers files b seqs bodies seq frame c q (q + 1) (pushed vs st) st (pushed vs []) z out (reading (spread ks vs) (λ us. make_array us Done) z)
+        (here files b seqs bodies seq frame c q (pushed vs st) z (own l s) (NewArray (count ts) ks) pl1.0 ∙ args_off vs st (count ts) _ (omega arith)) pl1.1 (pushed_over vs [] st) (subst (λ y. A seq frame c y st out (reading (spread ks vs) (λ us. make_array us Done) z)) (sym e1) k1)) k
+    form_does (hash ps) l s seq frame out h p sd fs pl = λ c st w high le k. ?
+    form_does (range a e x) l s seq frame out h p sd fs pl = λ c st w high le k.
+        let pa = finish p (shape l a) in let pe = finish pa (shape l e) in
+        tree_then seq frame out (h + 0) p pa (pe + 1) l a (tree_does a l seq frame out (h + 0) p sd fs.0 pl.0) c st [] st w (λ u. then (run_it l frame e) (λ v. make_range (with_loop l frame) s.line x u v)) high (omega arith) refl le
+        (λ u z b1 k1. tree_then seq frame out (h + 1) pa pe (pe + 1) l e (tree_does e l seq frame out (h + 1) pa sd fs.1 pl.1.0) c (u ∷ st) (u ∷ []) st z (λ v. make_range (with_loop l frame) s.line x u v) high (omega arith) refl b1
+        (λ v z1 b2 k2. answered seq frame c pe (pe + 1) (v ∷ (u ∷ st)) st (v ∷ (u ∷ [])) z1 out (own l s) (NewRange (table.open_end x)) (make_range frame (own l s) x u v z1) (make_range (with_loop l frame) s.line x u v z1) pl.1.1.0 pl.1.1.1 (range_flag x seq frame pe v u st z1 (own l s)) refl
+        (ap (λ f. f z1) (range_same (with_loop l frame) frame s.line (own l s) refl (own_lines l frame sd.of_first s.line) x u v)) k2) k1) k
+    form_does (constant_path without true xs) l s seq frame out h p sd fs pl = λ c st w high le k.
+        answered seq frame c p (p + 1) st st [] w out (own l s) (OptGetConstantPath 1 xs) (path_from frame (own l s) xs (object object_class) w) (path_from (with_loop l frame) s.line xs (object object_class) w) pl.0 pl.1 refl refl
+        (ap (λ f. f w) (path_same (with_loop l frame) frame s.line (own l s) refl (own_lines l frame sd.of_first s.line) xs (object object_class))) k
+    form_does (constant_path without false xs) l s seq frame out h p sd fs pl = λ c st w high le k.
+        answered seq frame c p (p + 1) st st [] w out (own l s) (OptGetConstantPath 0 xs) (path_around frame (own l s) xs w) (path_around (with_loop l frame) s.line xs w) pl.0 pl.1 refl refl
+        (ap (λ f. f w) (around_same (with_loop l frame) frame s.line (own l s) refl (own_lines l frame sd.of_first s.line) xs)) k
+    form_does (constant_path (with t) top_one xs) l s seq frame out h p sd fs pl = λ c st w high le k.
+        let p1 = finish p (shape l t) in
+        tree_then seq frame out (h + 0) p p1 (p1 + 1) l t (tree_does t l seq frame out (h + 0) p sd fs pl.0) c st [] st w (path_from (with_loop l frame) s.line xs) high (omega arith) refl le
+        (λ v z b1 k1. answered seq frame c p1 (p1 + 1) (v ∷ st) st (v ∷ []) z out (own l s) (OptGetConstantPath 2 xs) (path_from frame (own l s) xs v z) (path_from (with_loop l frame) s.line xs v z) pl.1.0 pl.1.1 refl refl
+        (ap (λ f. f z) (path_same (with_loop l frame) frame s.line (own l s) refl (own_lines l frame sd.of_first s.line) xs v)) k1) k
+    form_does (assign t g) l s seq frame out h p sd fs pl = λ c st w high le k.
+        let p1 = finish p (shape l t) in
+        tree_then seq frame out (h + 0) p p1 (p1 + 1 + 1) l t (tree_does t l seq frame out (h + 0) p sd fs.0 pl.0) c st [] st w (set_goal (with_loop l frame) s.line g) high (omega arith) refl le
+        (λ v z b1 a. on seq frame c p1 (v ∷ st) z (own l s) Dup (p1 + 1) (v ∷ (v ∷ st)) z pl.1.0 refl
+        (dropped seq frame c (p1 + 1) (p1 + 1 + 1) (p1 + 1 + 1) (v ∷ (v ∷ st)) (v ∷ st) st (v ∷ (v ∷ [])) z out (own l s) (table.set_goal l g) (set_goal frame (own l s) g v z) (λ u. Done v) pl.1.2.0 pl.1.2.1
+        (goal_acts g l seq frame (p1 + 1) (own l s) v (v ∷ st) z fs.1 b1) refl (λ u z1 k1. k1)
+        (subst (λ o. A seq frame c (p1 + 1 + 1) st out o) (ap (λ f. f z) (goal_same (with_loop l frame) frame s.line (own l s) refl (own_lines l frame sd.of_first s.line) g v) ∙ set_value frame (own l s) g v z) a))) k
+    form_does (assign_all ts gs) l s seq frame out h p sd fs pl = λ c st w high le k. ?
+    form_does (assign_attribute a t m) l s seq frame out h p sd fs pl = λ c st w high le k.
+        let pa = finish (p + 1) (shape l a) in let pt = finish pa (shape l t) in
+        on seq frame c p st w (start l s) PutNil (p + 1) (nil ∷ st) w pl.0 refl
+        (tree_then seq frame out (h + 1) (p + 1) pa (pt + 1 + 1 + 1) l a (tree_does a l seq frame out (h + 1) (p + 1) sd fs.0 pl.2.0) c (nil ∷ st) (nil ∷ []) st w
+        (λ o. then (run_it l frame t) (λ v. set_by_send files top b (with_loop l frame) s.line o m (v ∷ []) v)) high (omega arith) refl le
+        (λ o w1 b1 k1. tree_then seq frame out (h + 2) pa pt (pt + 1 + 1 + 1) l t (tree_does t l seq frame out (h + 2) pa sd fs.1 pl.2.1.0) c (o ∷ (nil ∷ st)) (o ∷ (nil ∷ [])) st w1
+        (λ v. set_by_send files top b (with_loop l frame) s.line o m (v ∷ []) v) high (omega arith) refl b1
+        (λ v w2 b2 k2. set_ends l seq frame out h pt (start l s) 2 s.line m 1 (self_flag a) (v ∷ []) o v (v ∷ (o ∷ (nil ∷ st))) st w2 c (pt + 1 + 1 + 1) done sd.of_first (self_bit a) refl pl.2.1.1 refl (λ z r. r) k2) k1) k)
+    form_does (assign_index a i t) l s seq frame out h p sd fs pl = λ c st w high le k.
+        let pa = finish (p + 1) (shape l a) in let pi = finish pa (shape l i) in let pt = finish pi (shape l t) in let set = codes "[]=" in
+        on seq frame c p st w (start l s) PutNil (p + 1) (nil ∷ st) w pl.0 refl
+        (tree_then seq frame out (h + 1) (p + 1) pa (pt + 1 + 1 + 1) l a (tree_does a l seq frame out (h + 1) (p + 1) sd fs.0 pl.2.0) c (nil ∷ st) (nil ∷ []) st w
+        (λ o. then (run_it l frame i) (λ j. then (run_it l frame t) (λ v. set_by_send files top b (with_loop l frame) s.line o set (j ∷ (v ∷ [])) v))) high (omega arith) refl le
+        (λ o w1 b1 k1. tree_then seq frame out (h + 2) pa pi (pt + 1 + 1 + 1) l i (tree_does i l seq frame out (h + 2) pa sd fs.1 pl.2.1.0) c (o ∷ (nil ∷ st)) (o ∷ (nil ∷ [])) st w1
+        (λ j. then (run_it l frame t) (λ v. set_by_send files top b (with_loop l frame) s.line o set (j ∷ (v ∷ [])) v)) high (omega arith) refl b1
+        (λ j w2 b2 k2. tree_then seq frame out (h + 3) pi pt (pt + 1 + 1 + 1) l t (tree_does t l seq frame out (h + 3) pi sd fs.2 pl.2.1.1.0) c (j ∷ (o ∷ (nil ∷ st))) (j ∷ (o ∷ (nil ∷ []))) st w2
+        (λ v. set_by_send files top b (with_loop l frame) s.line o set (j ∷ (v ∷ [])) v) high (omega arith) refl b2
+        (λ v w3 b3 k3. set_ends l seq frame out h pt (start l s) 3 s.line set 2 (self_flag a) (j ∷ (v ∷ [])) o v (v ∷ (j ∷ (o ∷ (nil ∷ st)))) st w3 c (pt + 1 + 1 + 1) done sd.of_first (self_bit a) refl pl.2.1.1.1 refl (λ z r. r) k3) k2) k1) k)
+    form_does (operate_attribute a x t f m n) l s seq frame out h p sd fs pl = λ c st w high le k. ?
+    form_does (or_attribute a x t m) l s seq frame out h p sd fs pl = λ c st w high le k. ?
+    form_does (and_attribute a x t m) l s seq frame out h p sd fs pl = λ c st w high le k. ?
+    form_does (operate_index a i t f n) l s seq frame out h p sd fs pl = λ c st w high le k. ?
+    form_does (or_index a i t) l s seq frame out h p sd fs pl = λ c st w high le k. ?
+    form_does (and_index a i t) l s seq frame out h p sd fs pl = λ c st w high le k. ?
+    form_does (send o ts ks v x bare t) l s seq frame out h p sd fs pl = λ c st w high le k.
+        let fin = finish p (form_shape l (send o ts ks v x bare t) s) in let flags = receiver_flag o + value_flag v + bare_flag bare in
+        receiver_does o l seq frame out h p (start l s) _ sd fs.0 pl c st w fin
+        (λ self. run_trees files top b ts (with_loop l frame) [] (λ vs. run_given_value files top b v (with_loop l frame) s.line no_block (λ given. with_block t (with_loop l frame) given (send_with files top b (with_loop l frame) s.line self x ks vs bare))))
+        refl high le
+        (λ self q z pl1 e1 b1 a1. args_does ts l seq frame out h q 1 _ sd fs.1 pl1 c st (self ∷ []) z fin []
+        (λ vs. run_given_value files top b v (with_loop l frame) s.line no_block (λ given. with_block t (with_loop l frame) given (send_with files top b (with_loop l frame) s.line self x ks vs bare)))
+        e1 refl high b1
+        (λ us q2 z2 pl2 e2 n2 b2 a2. value_does v l seq frame out h q2 (suc (count ts)) _ sd fs.2 pl2 c st (pushed us (self ∷ st)) (pushed us (self ∷ [])) z2 fin s.line no_block
+        (λ given. with_block t (with_loop l frame) given (send_with files top b (with_loop l frame) s.line self x ks us bare)) e2 high (let m1 = pushed_length us (self ∷ st) in omega arith) (pushed_over us (self ∷ []) st) b2
+        (λ g q3 z3 stk3 extra3 pl3 e3 over3 only taken a3. call_ends t l seq frame out h q3 (own l s) (Send x (count ts) ks flags) pl3 c st z3 fin stk3 extra3 e3 high.tall over3
+        (λ j. sent files b seqs bodies j frame (own l s) self x ks us bare g z3)
+        (send_acts seq frame q3 stk3 z3 (own l s) x (count ts) ks flags (is_with v) bare g us self st (flags_valued (receiver_flag o) v bare (receiver_bit o)) (flags_bare (receiver_flag o) v bare (receiver_bit o)) (omega arith) taken)
+        _ (send_means t v l frame sd.of_first fs.3 s.line self x ks us bare g z3 only) a3) a2) a1) k
+    form_does (safe_send a ts ks v x t) l s seq frame out h p sd fs pl = λ c st w high le k. ?
+    form_does (yield ts ks) l s seq frame out h p sd fs pl = λ c st w high le k.
+        args_does ts l seq frame out h p 0 _ sd fs pl c st [] w (finish p (form_shape l (yield ts ks) s)) [] (λ vs. reading (spread ks vs) (λ us. run_given b (with_loop l frame) s.line frame.block us)) refl refl high le
+        (λ vs q z pl1 e1 n1 b1 k1. answered seq frame c q (q + 1) (pushed vs st) st (pushed vs []) z out (own l s) (InvokeBlock (count ts) ks) (run_given b frame (own l s) frame.block (spread ks vs z) z) (run_given b (with_loop l frame) s.line frame.block (spread ks vs z) z) pl1.0 pl1.1
+        (args_off vs st (count ts) _ (omega arith)) (pushed_over vs [] st) (ap (λ f. f z) (given_block_same (with_loop l frame) frame s.line (own l s) refl (own_lines l frame sd.of_first s.line) files b frame.block (spread ks vs z)))
+        (subst (λ y. A seq frame c y st out (run_given b (with_loop l frame) s.line frame.block (spread ks vs z) z)) (sym e1) k1)) k
+    form_does (super ts ks v t) l s seq frame out h p sd fs pl = λ c st w high le k. ?
+    form_does (bare_super t) l s seq frame out h p sd fs pl = λ c st w high le k. ?
+    form_does bare_raise l s seq frame out h p sd fs pl = λ c st w high le k.
+        let stk = frame.handled ∷ (frame.self_value ∷ st) in
+        on seq frame c p st w (own l s) PutSelf (p + 1) (frame.self_value ∷ st) w pl.0 refl
+        (on seq frame c (p + 1) (frame.self_value ∷ st) w (own l s) (TopN h) (p + 1 + 1) stk w pl.2.0 (item_last frame.handled frame.self_value st h (λ v. goes (p + 1 + 1) (v ∷ (frame.self_value ∷ st)) w) (high.bottom fs) high.tall)
+        (plain_ends l seq frame out (p + 1 + 1) s.line (codes "raise") 1 1 (frame.handled ∷ []) frame.self_value st w c sd.of_first (inr refl) refl pl.2.2.0 pl.2.2.1 k))
+    form_does (negated a) l s seq frame out h p sd fs pl = λ c st w high le k.
+        let p1 = finish p (shape l a) in
+        tree_then seq frame out (h + 0) p p1 (p1 + 1) l a (tree_does a l seq frame out (h + 0) p sd fs pl.0) c st [] st w (λ v. call_method files b (with_loop l frame) s.line v (codes "!") [] no_block false) high (omega arith) refl le
+        (λ v z b1 k1. plain_ends l seq frame out p1 s.line (codes "!") 0 (self_flag a) [] v st z c sd.of_first (self_bit a) refl pl.1.0 pl.1.1 k1) k
+    form_does (statements ts) l s seq frame out h p sd fs pl = all_does ts l seq frame out h p (own l s) sd fs pl
+    form_does (both a e) l s seq frame out h p sd fs pl = λ c st w high le k.
+        let p1 = finish p (shape l a) in let n = suc (size (shape l e)) in let fin = finish (p1 + 1 + 1 + 1) (shape l e) in
+        tree_then seq frame out (h + 0) p p1 fin l a (tree_does a l seq frame out (h + 0) p sd fs.0 pl.0) c st [] st w (λ v. choose (is_true v) (run_it l frame e) (Done v)) high (omega arith) refl le
+        (λ v z b1 k1. on seq frame c p1 (v ∷ st) z (own l s) Dup (p1 + 1) (v ∷ (v ∷ st)) z pl.1.0 refl
+        (short_ends l seq frame out (h + 0) (p1 + 1) n (own l s) fin (BranchUnless (p1 + 1 + 1 + n)) (run_it l frame e) c st v z (not (is_true v)) pl.1.2.0 refl (let g = finish_size (shape l e) (p1 + 1 + 1 + 1) in omega arith) pl.1.2.2.0
+        (tree_does e l seq frame out (h + 0) (p1 + 1 + 1 + 1) sd fs.1 pl.1.2.2.2.0) (plus_zero _ _ _ _ high) b1 (not (is_true v)) refl (subst (λ y. A seq frame c fin st out y) (choose_not (is_true v) (run_it l frame e) (Done v) z) k1))) k
+    form_does (either a e) l s seq frame out h p sd fs pl = λ c st w high le k.
+        let p1 = finish p (shape l a) in let n = suc (size (shape l e)) in let fin = finish (p1 + 1 + 1 + 1) (shape l e) in
+        tree_then seq frame out (h + 0) p p1 fin l a (tree_does a l seq frame out (h + 0) p sd fs.0 pl.0) c st [] st w (λ v. choose (is_true v) (Done v) (run_it l frame e)) high (omega arith) refl le
+        (λ v z b1 k1. on seq frame c p1 (v ∷ st) z (own l s) Dup (p1 + 1) (v ∷ (v ∷ st)) z pl.1.0 refl
+        (short_ends l seq frame out (h + 0) (p1 + 1) n (own l s) fin (BranchIf (p1 + 1 + 1 + n)) (run_it l frame e) c st v z (is_true v) pl.1.2.0 refl (let g = finish_size (shape l e) (p1 + 1 + 1 + 1) in omega arith) pl.1.2.2.0
+        (tree_does e l seq frame out (h + 0) (p1 + 1 + 1 + 1) sd fs.1 pl.1.2.2.2.0) (plus_zero _ _ _ _ high) b1 (is_true v) refl k1)) k
+    form_does (if_else e a o) l s seq frame out h p sd fs pl = λ c st w high le k.
+        let pb = finish p (shape l e) in let pa = finish (pb + 1) (shape l a) in let fin = finish (pa + 1) (other_shape l o) in
+        tree_then seq frame out (h + 0) p pb fin l e (tree_does e l seq frame out (h + 0) p sd fs.0 pl.0) c st [] st w (λ v. choose (is_true v) (run_it l frame a) (run_other files top b o (with_loop l frame))) high (omega arith) refl le
+        (λ v z b1 k1. if_ends l seq frame out h pb (size (shape l a) + 1) pa (size (other_shape l o)) (own l s) fin (run_it l frame a) (run_other files top b o (with_loop l frame)) c st v z pl.1.0
+        (let g = finish_size (shape l a) (pb + 1) in omega arith) pl.1.2.1.0 (let g = finish_size (other_shape l o) (pa + 1) in omega arith)
+        (λ c1 st1 w1 high1. tree_does a l seq frame out (h + 0) (pb + 1) sd fs.1 pl.1.2.0 c1 st1 w1 (plus_zero _ _ _ _ high1)) (other_does o l seq frame out h (pa + 1) sd fs.2 pl.1.2.1.2.0) high b1 (is_true v) refl k1) k
+    form_does (while_loop a e u true) l s seq frame out h p sd fs pl = λ c st w high le k.
+        let pn = finish p (shape (looped l) a) in let pc = finish (pn + 1) (shape l e) in let n = size (shape (looped l) a) + 1 + size (shape l e) in
+        let g1 = finish_size (shape (looped l) a) p in let g2 = finish_size (shape l e) (pn + 1) in
+        tree_does a (looped l) seq frame _ h p sd fs.0 pl.0.0 c st w high le
+        (turn_ends files b seqs bodies top l.clause l.sight.scopes seq frame out h p pn pc (size (shape l e) + 3) (own l s) (own l s) (own l s) (pc - n) u (run_it l frame e) (run_it (looped l) frame a) pl.1.0 pl.1.1 pl.1.2.1.0 pl.1.2.1.1 (omega arith) (omega arith) pl.1.2.1.2.0 (omega arith)
+        (known.trees l.sight.scopes frame (with_loop l frame) refl e) (known.trees l.sight.scopes frame (with_loop (looped l) frame) refl a) (tree_does a (looped l) seq frame _ h p sd fs.0 pl.0.0) (λ c1 st1 w1 high1. tree_does e l seq frame out (h + 0) (pn + 1) sd fs.1 pl.1.2.0 c1 st1 w1 (plus_zero _ _ _ _ high1)) c st high
+        top (loop top u (run_it l frame e) (run_it (looped l) frame a))
+        (λ w1 b1 k1. turns_run files b seqs bodies top l.clause l.sight.scopes seq frame out h p pn pc (size (shape l e) + 3) (own l s) (own l s) (own l s) (pc - n) u (run_it l frame e) (run_it (looped l) frame a) pl.1.0 pl.1.1 pl.1.2.1.0 pl.1.2.1.1 (omega arith) (omega arith) pl.1.2.1.2.0 (omega arith)
+        (known.trees l.sight.scopes frame (with_loop l frame) refl e) (known.trees l.sight.scopes frame (with_loop (looped l) frame) refl a) (tree_does a (looped l) seq frame _ h p sd fs.0 pl.0.0) (λ c1 st1 w2 high1. tree_does e l seq frame out (h + 0) (pn + 1) sd fs.1 pl.1.2.0 c1 st1 w2 (plus_zero _ _ _ _ high1)) c st high
+        top top w1 (omega arith) (omega arith) b1 k1)
+        (run_it (looped l) frame a w) (known.trees l.sight.scopes frame (with_loop (looped l) frame) refl a top w (omega arith) le) k)
+    form_does (while_loop a e u false) l s seq frame out h p sd fs pl = λ c st w high le k.
+        let pn = finish (p + 1) (shape (looped l) a) in let pc = finish (pn + 1) (shape l e) in let n = size (shape (looped l) a) + 1 + size (shape l e) in
+        let g1 = finish_size (shape (looped l) a) (p + 1) in let g2 = finish_size (shape l e) (pn + 1) in
+        jump_to seq frame c p (size (shape (looped l) a) + 1) (own l s) (pn + 1) st w pl.0 (omega arith)
+        (turns_run files b seqs bodies top l.clause l.sight.scopes seq frame out h (p + 1) pn pc (size (shape l e) + 3) (own l s) (own l s) (own l s) (pc - n) u (run_it l frame e) (run_it (looped l) frame a) pl.2.1.0 pl.2.1.1 pl.2.1.2.1.0 pl.2.1.2.1.1 (omega arith) (omega arith) pl.2.1.2.1.2.0 (omega arith)
+        (known.trees l.sight.scopes frame (with_loop l frame) refl e) (known.trees l.sight.scopes frame (with_loop (looped l) frame) refl a) (tree_does a (looped l) seq frame _ h (p + 1) sd fs.0 pl.2.0.0) (λ c1 st1 w2 high1. tree_does e l seq frame out (h + 0) (pn + 1) sd fs.1 pl.2.1.2.0 c1 st1 w2 (plus_zero _ _ _ _ high1)) c st high
+        top top w (omega arith) (omega arith) le k)
+    form_does (return_with ts) l s seq frame out h p sd fs pl = λ c st w high le k.
+        values_does ts l seq frame out h p (own l s) _ sd fs pl c st w (finish p (form_shape l (return_with ts) s)) (leave_home (with_loop l frame) s.line) refl high le
+        (λ v q z pl1 e1 b1 k1. answered seq frame c q (q + 1) (v ∷ st) st (v ∷ []) z out (own l s) (Throw 1) (leave_home frame (own l s) v z) (leave_home (with_loop l frame) s.line v z) pl1.0 pl1.1 refl refl
+        (ap (λ f. f z) (home_same (with_loop l frame) frame s.line (own l s) refl (own_lines l frame sd.of_first s.line) v)) (subst (λ y. A seq frame c y st out (leave_home (with_loop l frame) s.line v z)) (sym e1) k1)) k
+    form_does (break_with ts) l s seq frame out h p sd fs pl = λ c st w high le k.
+        values_does ts l seq frame out h p (own l s) _ sd fs pl c st w (finish p (form_shape l (break_with ts) s)) (leave_loop (with_loop l frame) s.line) refl high le
+        (λ v q z pl1 e1 b1 k1. leave_by l.loop l seq frame out q s.line c st v z sd.of_first pl1.0 pl1.1 (subst (λ y. A seq frame c y st out (leave_loop (with_loop l frame) s.line v z)) (sym e1) k1)) k
+    form_does (next_with ts) l s seq frame out h p sd fs pl = λ c st w high le k.
+        values_does ts l seq frame out h p (own l s) _ sd fs pl c st w (finish p (form_shape l (next_with ts) s)) Next refl high le
+        (λ v q z pl1 e1 b1 k1. next_by l.loop seq frame out q (own l s) c st v z pl1.0 pl1.1 k1) k
+    form_does retry l s seq frame out h p sd fs pl = λ c st w high le k.
+        on seq frame c p st w (own l s) PutNil (p + 1) (nil ∷ st) w pl.0 refl
+        (pend files b seqs bodies seq frame c (p + 1) (nil ∷ st) w out (Retry w) (here files b seqs bodies seq frame c (p + 1) (nil ∷ st) w (own l s) (Throw 7) pl.2.0) pl.2.1 (k (nil ∷ [])))
+    form_does (rescue a o e) l s seq frame out h p sd fs pl = λ c st w high le k.
+        let line = own l s in let pe = finish p (shape l a) in let px = finish pe (last_shape l line o) in
+        rescues_run files b seqs bodies top l.clause l.sight.scopes seq frame out h p pe px (size (last_shape l line o)) (number_of l e) (run_it l frame a) (λ v. run files top b e (handling (with_loop l frame) v)) (λ v. run_last files top b o (with_loop l frame) v)
+        (let g = finish_size (last_shape l line o) pe in omega arith) (known.trees l.sight.scopes frame (with_loop l frame) refl a) (λ v. known.trees l.sight.scopes frame (handling (with_loop l frame) v) refl e) (tree_does a l seq frame _ h p sd fs.0 pl.0)
+        (λ v z b1. subst (λ y. Runs files b seqs bodies y (rescue_frame y frame v) 0 (v ∷ []) (entered_at (number_of l e) frame z) (run files top b e (handling (with_loop l frame) v) z)) (sym fs.2)
+        (subst (λ y. Runs files b seqs bodies (part_routine (in_rescue l e) kinds.Rescue e) (rescue_frame (part_routine (in_rescue l e) kinds.Rescue e) frame v) 0 (v ∷ []) y (run files top b e (handling (with_loop l frame) v) z)) (sym (entered_same l frame e z sd.of_places))
+        (rescue_part e l frame v z sd fs.3 b1)))
+        c st high (last_does o l seq frame out h pe line sd fs.1 pl.1 c st high) top top w (omega arith) (omega arith) le k
+    form_does (ensure a e) l s seq frame out h p sd fs pl = λ c st w high le k.
+        let p6 = finish p (shape l a) in
+        ensures_run files b seqs bodies top l.clause l.sight.scopes seq frame out h p p6 (number_of l e) (own l s) (run_it l frame a) (run_it l frame e) pl.0.1.0 pl.0.1.1 (λ c1 st1 w1 high1. tree_does a l seq frame _ (h + 0) p sd fs.0 pl.0.0 c1 st1 w1 (plus_zero _ _ _ _ high1)) (known.trees l.sight.scopes frame (with_loop l frame) refl a)
+        (λ z b1. subst (λ y. Runs files b seqs bodies y (ensure_frame y frame) 0 [] (entered_at (number_of l e) frame z) (emptied (run_it l frame e z))) (sym fs.1)
+        (subst (λ y. Runs files b seqs bodies (part_routine (in_ensure l e) kinds.Ensure e) (ensure_frame (part_routine (in_ensure l e) kinds.Ensure e) frame) 0 [] y (emptied (run_it l frame e z))) (sym (entered_same l frame e z sd.of_places))
+        (ensure_part e l frame z sd fs.2 b1))) c st high w le k
+    form_does (case_of a ws o) l s seq frame out h p sd fs pl = λ c st w high le k. ?
+    form_does (case_tests ws o) l s seq frame out h p sd fs pl = λ c st w high le k. ?
+    form_does (method x t f) l s seq frame out h p sd fs pl = λ c st w high le k. ?
+    form_does (class o x t) l s seq frame out h p sd fs pl = λ c st w high le k. ?
+    form_does (module_named x t) l s seq frame out h p sd fs pl = λ c st w high le k. ?
+    form_does (rescue_sequence cs) l s seq frame out h p sd fs pl = absurd fs
+    form_does (ensure_sequence a) l s seq frame out h p sd fs pl = absurd fs
+    form_does (body ps t) l s seq frame out h p sd fs pl = absurd fs
+
+    all_does : (ts : Trees) (l : Where) (seq : Routine) (frame : Frame) (out : List CatchRow) (h p : ℕ) (line : ℕ) → StandsIn l frame → FindsTrees seqs bodies l ts → Placed seq.body.code seq.body.rows out h p (all_shape l line ts) → D l seq frame out h p (finish p (all_shape l line ts)) (run_all files top b ts (with_loop l frame) nil)
+    all_does no_more l seq frame out h p line sd fs pl = λ c st w high le k. on seq frame c p st w line PutNil (p + 1) (nil ∷ st) w pl.0 refl k
+    all_does (more t ts) l seq frame out h p line sd fs pl = λ c st w high le k.
+        let p1 = finish p (shape l t) in
+        tree_then seq frame out (h + 0) p p1 (finish p1 (rest_shape l line ts)) l t (tree_does t l seq frame out (h + 0) p sd fs.0 pl.0) c st [] st w (run_all files top b ts (with_loop l frame)) high (omega arith) refl le
+        (λ v z b1 k1. rest_does ts l seq frame out h p1 line sd fs.1 pl.1 c st z v high b1 k1) k
+
+    rest_does : (ts : Trees) (l : Where) (seq : Routine) (frame : Frame) (out : List CatchRow) (h p : ℕ) (line : ℕ) → StandsIn l frame → FindsTrees seqs bodies l ts → Placed seq.body.code seq.body.rows out h p (rest_shape l line ts) → (c : Outcome) (st : List Value) (w : World) (v : Value) → High l.clause frame.handled h st → G l frame w
+        → A seq frame c (finish p (rest_shape l line ts)) st out (run_all files top b ts (with_loop l frame) v w) → R seq frame c p (v ∷ st) w
+    rest_does no_more l seq frame out h p line sd fs pl c st w v high le k = k
+    rest_does (more t ts) l seq frame out h p line sd fs pl c st w v high le k =
+        let p1 = finish (p + 1) (shape l t) in
+        on seq frame c p (v ∷ st) w line Pop (p + 1) st w pl.0 refl
+        (tree_then seq frame out (h + 0) (p + 1) p1 (finish p1 (rest_shape l line ts)) l t (tree_does t l seq frame out (h + 0) (p + 1) sd fs.0 pl.2.0) c st [] st w (run_all files top b ts (with_loop l frame)) high (omega arith) refl le
+        (λ u z b1 k1. rest_does ts l seq frame out h p1 line sd fs.1 pl.2.1 c st z u high b1 k1) k)
+
+    other_does : (o : Other) (l : Where) (seq : Routine) (frame : Frame) (out : List CatchRow) (h p : ℕ) → StandsIn l frame → FindsOther seqs bodies l o → Placed seq.body.code seq.body.rows out (h + 0) p (other_shape l o) → D l seq frame out h p (finish p (other_shape l o)) (run_other files top b o (with_loop l frame))
+    other_does without l seq frame out h p sd fs pl = λ c st w high le k. on seq frame c p st w l.first PutNil (p + 1) (nil ∷ st) w pl.0 refl k
+    other_does (with t) l seq frame out h p sd fs pl = λ c st w high le k. tree_does t l seq frame out (h + 0) p sd fs pl c st w (plus_zero _ _ _ _ high) le k
+
+    last_does : (o : Other) (l : Where) (seq : Routine) (frame : Frame) (out : List CatchRow) (h p : ℕ) (line : ℕ) → StandsIn l frame → FindsOther seqs bodies l o → Placed seq.body.code seq.body.rows out h p (last_shape l line o) → (c : Outcome) (st : List Value) → High l.clause frame.handled h st → (v : Value) (z : World) → G l frame z
+        → A seq frame c (finish p (last_shape l line o)) st out (run_last files top b o (with_loop l frame) v z) → R seq frame c p (v ∷ st) z
+    last_does without l seq frame out h p line sd fs pl c st high v z le k = k
+    last_does (with t) l seq frame out h p line sd fs pl c st high v z le k =
+        on seq frame c p (v ∷ st) z line Pop (p + 1) st z pl.0 refl (tree_does t l seq frame out (h + 0) (p + 1) sd fs pl.2.0 c st z (plus_zero _ _ _ _ high) le k)
+
+    receiver_does : (o : Other) (l : Where) (seq : Routine) (frame : Frame) (out : List CatchRow) (h p : ℕ) (line : ℕ) (s : Shape) → StandsIn l frame → FindsOther seqs bodies l o → Placed seq.body.code seq.body.rows out h p (receiver_shape l o line s)
+        → (c : Outcome) (st : List Value) (w : World) (fin : ℕ) (next : Value → Run) → finish p (receiver_shape l o line s) ≡ fin → High l.clause frame.handled h st → G l frame w
+        → ((v : Value) (q : ℕ) (z : World) → Placed seq.body.code seq.body.rows out h q s → finish q s ≡ fin → G l frame z → A seq frame c fin st out (next v z) → R seq frame c q (v ∷ st) z)
+        → A seq frame c fin st out (run_receiver files top b o (with_loop l frame) next w) → R seq frame c p st w
+    receiver_does without l seq frame out h p line s sd fs pl c st w fin next e high le g k = on seq frame c p st w line PutSelf (p + 1) (frame.self_value ∷ st) w pl.0 refl (g frame.self_value (p + 1) w pl.2 e le k)
+    receiver_does (with t) l seq frame out h p line s sd fs pl c st w fin next e high le g k =
+        let p1 = finish p (shape l t) in
+        tree_then seq frame out (h + 0) p p1 fin l t (tree_does t l seq frame out (h + 0) p sd fs pl.0) c st [] st w next high (omega arith) refl le (λ v z b1 k1. g v p1 z pl.1 e b1 k1) k
+
+    args_does : (ts : Trees) (l : Where) (seq : Routine) (frame : Frame) (out : List CatchRow) (h p : ℕ) (d : ℕ) (s : Shape) → StandsIn l frame → FindsTrees seqs bodies l ts → Placed seq.body.code seq.body.rows out h p (args_shape l d ts s)
+        → (c : Outcome) (st : List Value) (under : List Value) (w : World) (fin : ℕ) (vs : List Value) (next : List Value → Run) → finish p (args_shape l d ts s) ≡ fin → length vs + length under ≡ d → High l.clause frame.handled h st → G l frame w
+        → ((us : List Value) (q : ℕ) (z : World) → Placed seq.body.code seq.body.rows out h q s → finish q s ≡ fin → length us ≡ length vs + count ts → G l frame z → A seq frame c fin st out (next us z) → R seq frame c q (pushed us (under ++ st)) z)
+        → A seq frame c fin st out (run_trees files top b ts (with_loop l frame) vs next w) → R seq frame c p (pushed vs (under ++ st)) w
+    args_does no_more l seq frame out h p d s sd fs pl c st under w fin vs next e n high le g k = g vs p w pl e (omega arith) le k
+    args_does (more t ts) l seq frame out h p d s sd fs pl c st under w fin vs next e n high le g k =
+        let p1 = finish p (shape l t) in
+        tree_then seq frame out (h + d) p p1 fin l t (tree_does t l seq frame out (h + d) p sd fs.0 pl.0) c (pushed vs (under ++ st)) (pushed vs under) st w (λ v. run_trees files top b ts (with_loop l frame) (vs ++ v ∷ []) next)
+        high (let m = pushed_length vs (under ++ st) in let m1 = length-append under st in omega (arith, high.tall)) (pushed_over vs under st) le
+        (λ v z b1 k1. let m = length-append vs (v ∷ []) in
+        subst (λ y. R seq frame c p1 y z) (pushed_last vs v (under ++ st)) (args_does ts l seq frame out h p1 (suc d) s sd fs.1 pl.1 c st under z fin (vs ++ v ∷ []) next e (omega arith) high b1 (λ us q z1 pl1 e1 n1 b2 k2. g us q z1 pl1 e1 (omega arith) b2 k2) k1)) k
+
+    value_does : (v : Other) (l : Where) (seq : Routine) (frame : Frame) (out : List CatchRow) (h p : ℕ) (d : ℕ) (s : Shape) → StandsIn l frame → FindsOther seqs bodies l v → Placed seq.body.code seq.body.rows out h p (value_shape l d v s)
+        → (c : Outcome) (st stk over : List Value) (w : World) (fin n : ℕ) (own_block : Given) (next : Given → Run) → finish p (value_shape l d v s) ≡ fin → High l.clause frame.handled h st → length stk ≡ h + d → stk ≡ over ++ st → G l frame w
+        → ((g : Option Value) (q : ℕ) (z : World) (stk1 over1 : List Value) → Placed seq.body.code seq.body.rows out h q s → finish q s ≡ fin → stk1 ≡ over1 ++ st → (is_with v ≡ false → g ≡ None) → ((go : Option Value → List Value → Step) → with_value (is_with v) stk1 go ≡ go g stk)
+        → A seq frame c fin st out (value_given (with_loop l frame) n own_block g next z) → R seq frame c q stk1 z)
+        → A seq frame c fin st out (run_given_value files top b v (with_loop l frame) n own_block next w) → R seq frame c p stk w
+    value_does without l seq frame out h p d s sd fs pl c st stk over w fin n own_block next e high tall same le g k = g None p w stk over pl e same (λ y. refl) (λ go. refl) k
+    value_does (with u) l seq frame out h p d s sd fs pl c st stk over w fin n own_block next e high tall same le g k =
+        let p1 = finish p (shape l u) in
+        tree_then seq frame out (h + d) p p1 fin l u (tree_does u l seq frame out (h + d) p sd fs pl.0) c stk over st w (λ v. given_value (with_loop l frame) n v next) high tall same le
+        (λ v z b1 k1. g (Some v) p1 z (v ∷ stk) (v ∷ over) pl.1 e (ap (λ y. v ∷ y) same) (λ y. absurd (cc y)) (λ go. refl) k1) k
+
+    values_does : (ts : Trees) (l : Where) (seq : Routine) (frame : Frame) (out : List CatchRow) (h p : ℕ) (line : ℕ) (s : Shape) → StandsIn l frame → FindsTrees seqs bodies l ts → Placed seq.body.code seq.body.rows out h p (values_shape l ts line s)
+        → (c : Outcome) (st : List Value) (w : World) (fin : ℕ) (next : Value → Run) → finish p (values_shape l ts line s) ≡ fin → High l.clause frame.handled h st → G l frame w
+        → ((v : Value) (q : ℕ) (z : World) → Placed seq.body.code seq.body.rows out h q s → finish q s ≡ fin → G l frame z → A seq frame c fin st out (next v z) → R seq frame c q (v ∷ st) z)
+        → A seq frame c fin st out (run_trees files top b ts (with_loop l frame) [] (λ vs. of_values vs next) w) → R seq frame c p st w
+    values_does no_more l seq frame out h p line s sd fs pl c st w fin next e high le g k = on seq frame c p st w line PutNil (p + 1) (nil ∷ st) w pl.0 refl (g nil (p + 1) w pl.2 e le k)
+    values_does (more t no_more) l seq frame out h p line s sd fs pl c st w fin next e high le g k =
+        let p1 = finish p (shape l t) in
+        tree_then seq frame out (h + 0) p p1 fin l t (tree_does t l seq frame out (h + 0) p sd fs.0 pl.0) c st [] st w next high (omega arith) refl le (λ v z b1 k1. g v p1 z pl.1 e b1 k1) k
+    values_does (more t (more u us)) l seq frame out h p line s sd fs pl c st w fin next e high le g k =
+        let p1 = finish p (shape l t) in let p2 = finish p1 (shape l u) in
+        tree_then seq frame out (h + 0) p p1 fin l t (tree_does t l seq frame out (h + 0) p sd fs.0 pl.0) c st [] st w (λ v. then (run_it l frame u) (λ y. run_trees files top b us (with_loop l frame) (v ∷ (y ∷ [])) (λ vs. of_values vs next))) high (omega arith) refl le
+        (λ v z b1 k1. tree_then seq frame out (h + 1) p1 p2 fin l u (tree_does u l seq frame out (h + 1) p1 sd fs.1.0 pl.1.0) c (v ∷ st) (v ∷ []) st z (λ y. run_trees files top b us (with_loop l frame) (v ∷ (y ∷ [])) (λ vs. of_values vs next)) high (omega arith) refl b1
+        (λ y z1 b2 k2. args_does us l seq frame out h p2 2 _ sd fs.1.1 pl.1.1 c st [] z1 fin (v ∷ (y ∷ [])) (λ vs. of_values vs next) e refl high b2
+        (λ vs q z2 pl1 e1 n1 b3 k3. several l seq frame out h q (suc (suc (count us))) line s c st vs z2 fin next pl1 e1 (omega arith) b3 (subst (λ o. A seq frame c fin st out (o z2)) (many_values vs next (omega arith)) k3) g) k2) k1) k
+
+    rescue_part : (e : Tree) (l : Where) (frame : Frame) (v : Value) (z : World) → StandsIn l frame → FindsRescue seqs bodies (in_rescue l e) e → G l frame z
+        → Runs files b seqs bodies (part_routine (in_rescue l e) kinds.Rescue e) (rescue_frame (part_routine (in_rescue l e) kinds.Rescue e) frame v) 0 (v ∷ []) (enter frame.code.source (place_of e) z) (run files top b e (handling (with_loop l frame) v) z)
+    rescue_part (at s f) l frame v z sd fs le = rescue_form f (in_rescue l (at s f)) s frame v z refl (record { of_first = refl; of_path = sd.of_path; of_places = sd.of_places; of_body = sd.of_body }) fs le
+
+    rescue_form : (f : Form) (l : Where) (s : SourcePosition) (frame : Frame) (v : Value) (z : World) → l.clause ≡ true → StandsIn l (in_sequence s.first (handling frame v)) → FindsRescueForm seqs bodies l f → G l frame z
+        → Runs files b seqs bodies (part_routine l kinds.Rescue (at s f)) (in_sequence s.first (handling frame v)) 0 (v ∷ []) (enter frame.code.source s.place z) (run_form files top b f s (handling (with_loop l frame) v) z)
+    rescue_form (rescue_sequence cs) l s frame v z in_clause sd fs le =
+        let seq : Routine = part_routine l kinds.Rescue (at s (rescue_sequence cs)) in let fr : Frame = in_sequence s.first (handling frame v) in let z1 : World = enter frame.code.source s.place z in
+        let line = own l s in
+        let c : Outcome = run_clauses files top b cs (with_loop l fr) s.line z1 in let n = size (clauses_shape l cs line 0 done) in
+        let pl = placed (form_shape l (rescue_sequence cs) s) 1 in
+        let tail = clauses_tail seq.body.code seq.body.rows [] 1 cs l 0 line 0 (op line (Throw 0) (bodies_shape l cs line)) pl in
+        clauses_does cs l seq fr 0 s.line 0 (op line (Throw 0) (bodies_shape l cs line)) (0 + n + 1) sd fs pl tail.2 c z1 (omega arith) (ready_entered l.sight.scopes frame fr top frame.code.source s.place z refl le)
+        (λ q y pl1 e1. left_with files b seqs bodies seq fr c q (fr.handled ∷ []) y (Raise fr.handled y) (here files b seqs bodies seq fr c q (fr.handled ∷ []) y line (Throw 0) pl1.0) e1) refl
+    rescue_form f l s frame v z in_clause sd fs le = absurd fs
+
+    ensure_part : (e : Tree) (l : Where) (frame : Frame) (z : World) → StandsIn l frame → FindsEnsure seqs bodies (in_ensure l e) e → G l frame z
+        → Runs files b seqs bodies (part_routine (in_ensure l e) kinds.Ensure e) (ensure_frame (part_routine (in_ensure l e) kinds.Ensure e) frame) 0 [] (enter frame.code.source (place_of e) z) (emptied (run_it l frame e z))
+    ensure_part (at s f) l frame z sd fs le = ensure_form f (in_ensure l (at s f)) s frame z refl (record { of_first = refl; of_path = sd.of_path; of_places = sd.of_places; of_body = sd.of_body }) fs le
+
+    ensure_form : (f : Form) (l : Where) (s : SourcePosition) (frame : Frame) (z : World) → l.clause ≡ false → StandsIn l (in_sequence s.first frame) → FindsEnsureForm seqs bodies l f → G l frame z
+        → Runs files b seqs bodies (part_routine l kinds.Ensure (at s f)) (in_sequence s.first frame) 0 [] (enter frame.code.source s.place z) (emptied (run_form files top b f s (with_loop l frame) z))
+    ensure_form (ensure_sequence a) l s frame z no_exception sd fs le =
+        let seq : Routine = part_routine l kinds.Ensure (at s (ensure_sequence a)) in let fr : Frame = in_sequence s.first frame in let z1 : World = enter frame.code.source s.place z in
+        let line = own l s in
+        let c : Outcome = emptied (run_it l fr a z1) in let p1 = finish 0 (shape l a) in
+        let pl = placed (form_shape l (ensure_sequence a) s) 0 in
+        tree_does a l seq fr [] 0 0 sd fs pl.0 c [] z1 (record { tall = refl; bottom = λ y. absurd (let e : true ≡ false = sym y ∙ no_exception in cc e) }) (ready_entered l.sight.scopes frame fr top frame.code.source s.place z refl le)
+        (emptied_then files b seqs bodies seq fr c p1 [] (run_it l fr a z1) refl (λ v y e1. on seq fr c p1 (v ∷ []) y line Pop (p1 + 1) [] y pl.1.0 refl
+        (left_with files b seqs bodies seq fr c (p1 + 1) [] y (Done nil y) (here files b seqs bodies seq fr c (p1 + 1) [] y line (Throw 0) pl.1.2.0) e1)))
+    ensure_form f l s frame z no_exception sd fs le = absurd fs
+
+    -- the tests of the classes of a clause, behind the first
+    classes_does : (ts : Trees) (l : Where) (seq : Routine) (frame : Frame) (p n0 far : ℕ) (s : Shape) → StandsIn l frame → FindsTrees seqs bodies l ts → Placed seq.body.code seq.body.rows [] 1 p (classes_shape l ts (line_at l n0) far s)
+        → (c : Outcome) (w : World) (hit rest : Run) (hit_place : ℕ) → p + size (classes_shape l ts (line_at l n0) 0 done) + far ≡ hit_place → G l frame w
+        → ((z : World) → G l frame z → c ≡ hit z → R seq frame c hit_place (frame.handled ∷ []) z)
+        → ((q : ℕ) (z : World) → Placed seq.body.code seq.body.rows [] 1 q s → q + far ≡ hit_place → G l frame z → c ≡ rest z → R seq frame c q (frame.handled ∷ []) z)
+        → c ≡ run_classes files top b ts (with_loop l frame) n0 hit rest w → R seq frame c p (frame.handled ∷ []) w
+    classes_does no_more l seq frame p n0 far s sd fs pl c w hit rest hit_place over le to_hit to_rest e = to_rest p w pl (omega arith) le e
+    classes_does (more t ts) l seq frame p n0 far s sd fs pl c w hit rest hit_place over le to_hit to_rest e =
+        let line = line_at l n0 in let q = finish (p + 1) (shape l t) in let g = finish_size (shape l t) (p + 1) in let n = size (classes_shape l ts line 0 done) + far in
+        on seq frame c p (frame.handled ∷ []) w line Dup (p + 1) (frame.handled ∷ (frame.handled ∷ [])) w pl.0 refl
+        (tree_does t l seq frame [] (1 + 1) (p + 1) sd fs.0 pl.2.0 c (frame.handled ∷ (frame.handled ∷ [])) w (record { tall = refl; bottom = λ y. refl }) le
+        (whole_then files b seqs bodies seq frame c q (frame.handled ∷ (frame.handled ∷ [])) (run_it l frame t w) (λ v. match_class (with_loop l frame) n0 v hit (run_classes files top b ts (with_loop l frame) n0 hit rest)) e
+        (λ v z eo e1. let b1 : G l frame z = subst (λ o. G l frame (world_of o)) eo (keeps l frame t w le) in
+        match_does l seq frame c sd.of_first q n n0 hit_place v z hit (run_classes files top b ts (with_loop l frame) n0 hit rest) pl.2.1.0 pl.2.1.1 pl.2.1.2.0 (omega arith) (to_hit z b1)
+        (λ e2. classes_does ts l seq frame (q + 1 + 1) n0 far s sd fs.1 pl.2.1.2.2 c z hit rest hit_place (omega arith) b1 to_hit to_rest e2) e1)))
+
+    clause_does : (ts : Trees) (l : Where) (seq : Routine) (frame : Frame) (p n0 far : ℕ) (s : Shape) → StandsIn l frame → FindsTrees seqs bodies l ts → Placed seq.body.code seq.body.rows [] 1 p (clause_shape l ts (line_at l n0) far s)
+        → (c : Outcome) (w : World) (hit rest : Run) (hit_place : ℕ) → p + size (clause_shape l ts (line_at l n0) 0 done) + far ≡ hit_place → G l frame w
+        → ((z : World) → G l frame z → c ≡ hit z → R seq frame c hit_place (frame.handled ∷ []) z)
+        → ((q : ℕ) (z : World) → Placed seq.body.code seq.body.rows [] 1 q s → q + far ≡ hit_place → G l frame z → c ≡ rest z → R seq frame c q (frame.handled ∷ []) z)
+        → c ≡ run_clause files top b ts (with_loop l frame) n0 hit rest w → R seq frame c p (frame.handled ∷ []) w
+    clause_does no_more l seq frame p n0 far s sd fs pl c w hit rest hit_place over le to_hit to_rest e =
+        let xs : List Bytes = codes "StandardError" ∷ [] in let line = line_at l n0 in
+        let o : Outcome = path_from frame l.first xs (object object_class) w in
+        let same : path_from (with_loop l frame) 0 xs (object object_class) w ≡ o = ap (λ f. f w) (path_same (with_loop l frame) frame 0 l.first refl (own_lines l frame sd.of_first 0) xs (object object_class)) in
+        on seq frame c p (frame.handled ∷ []) w line Dup (p + 1) (frame.handled ∷ (frame.handled ∷ [])) w pl.0 refl
+        (answers files b seqs bodies seq frame c (p + 1) (p + 1 + 1) (frame.handled ∷ (frame.handled ∷ [])) (frame.handled ∷ (frame.handled ∷ [])) [] w [] o (here files b seqs bodies seq frame c (p + 1) (frame.handled ∷ (frame.handled ∷ [])) w l.first (OptGetConstantPath 1 xs) pl.2.0) pl.2.1 refl
+        (whole_then files b seqs bodies seq frame c (p + 1 + 1) (frame.handled ∷ (frame.handled ∷ [])) o (λ v. match_class (with_loop l frame) n0 v hit rest) (subst (λ y. c ≡ then_do y (λ v. match_class (with_loop l frame) n0 v hit rest)) same e)
+        (λ v z eo e1. let b1 : G l frame z = subst (λ y. G l frame (world_of y)) eo (known.paths l.sight.scopes frame frame refl l.first xs (object object_class) top w (omega arith) le) in
+        match_does l seq frame c sd.of_first (p + 1 + 1) far n0 hit_place v z hit rest pl.2.2.0 pl.2.2.1 pl.2.2.2.0 (omega arith) (to_hit z b1)
+        (λ e2. to_rest (p + 1 + 1 + 1 + 1) z pl.2.2.2.2 (omega arith) b1 e2) e1)))
+    clause_does (more t ts) l seq frame p n0 far s sd fs pl c w hit rest hit_place over le to_hit to_rest e =
+        let line = line_at l n0 in let q = finish (p + 1) (shape l t) in let g = finish_size (shape l t) (p + 1) in let n = size (classes_shape l ts line 0 done) + far in
+        on seq frame c p (frame.handled ∷ []) w line Dup (p + 1) (frame.handled ∷ (frame.handled ∷ [])) w pl.0 refl
+        (tree_does t l seq frame [] (1 + 1) (p + 1) sd fs.0 pl.2.0 c (frame.handled ∷ (frame.handled ∷ [])) w (record { tall = refl; bottom = λ y. refl }) le
+        (whole_then files b seqs bodies seq frame c q (frame.handled ∷ (frame.handled ∷ [])) (run_it l frame t w) (λ v. match_class (with_loop l frame) n0 v hit (run_classes files top b ts (with_loop l frame) n0 hit rest)) e
+        (λ v z eo e1. let b1 : G l frame z = subst (λ o. G l frame (world_of o)) eo (keeps l frame t w le) in
+        match_does l seq frame c sd.of_first q n n0 hit_place v z hit (run_classes files top b ts (with_loop l frame) n0 hit rest) pl.2.1.0 pl.2.1.1 pl.2.1.2.0 (omega arith) (to_hit z b1)
+        (λ e2. classes_does ts l seq frame (q + 1 + 1) n0 far s sd fs.1 pl.2.1.2.2 c z hit rest hit_place (omega arith) b1 to_hit to_rest e2) e1)))
+
+    clauses_does : (cs : Rescues) (l : Where) (seq : Routine) (frame : Frame) (p n0 far : ℕ) (s : Shape) (body_place : ℕ) → StandsIn l frame → FindsClauses seqs bodies l cs → Placed seq.body.code seq.body.rows [] 1 p (clauses_shape l cs (line_at l n0) far s)
+        → Placed seq.body.code seq.body.rows [] 1 body_place (bodies_shape l cs (line_at l n0)) → (c : Outcome) (w : World) → p + size (clauses_shape l cs (line_at l n0) 0 done) + 1 + far ≡ body_place → G l frame w
+        → ((q : ℕ) (z : World) → Placed seq.body.code seq.body.rows [] 1 q s → c ≡ Raise frame.handled z → R seq frame c q (frame.handled ∷ []) z)
+        → c ≡ run_clauses files top b cs (with_loop l frame) n0 w → R seq frame c p (frame.handled ∷ []) w
+    clauses_does no_clause l seq frame p n0 far s body_place sd fs pl its_bodies c w over le to_end e = to_end p w pl e
+    clauses_does (clause ts x t cs) l seq frame p n0 far s body_place sd fs pl its_bodies c w over le to_end e =
+        let line = line_at l n0 in
+        let n = size (named l line x (part 0 (shape l t) (op line Leave done))) in let g = clauses_step ts x t cs l line in
+        clause_does ts l seq frame p n0 (size (clauses_shape l cs line 0 done) + 1 + far) (clauses_shape l cs line (far + n) s) sd fs.0 pl c w
+        (λ z. run_it l frame t (set_exception (with_loop l frame) x z)) (run_clauses files top b cs (with_loop l frame) n0) body_place (omega arith) le
+        (λ z b1 e1. hit_ends l seq frame c sd.of_first x line body_place (shape l t) (bodies_shape l cs line) (run_it l frame t) z its_bodies (λ q pl1. tree_does t l seq frame [] (1 + 0) q sd fs.2 pl1) fs.1 b1 e1)
+        (λ q z pl1 over1 b1 e1. clauses_does cs l seq frame q n0 (far + n) s (body_place + n) sd fs.3 pl1 (named_tail seq.body.code seq.body.rows [] 1 x l line body_place (shape l t) (bodies_shape l cs line) its_bodies) c z (omega arith) b1 to_end e1) e
