@@ -10,11 +10,11 @@ use Rattle.iseq_types.specs.declared.instructions.Literal.TheVariants.{True, Fal
 use Rattle.iseq_types.specs.declared.sequences.CatchKind.TheVariants as catches
 use Rattle.iseq_types.specs.declared.sequences.CatchRow.{CatchRow}
 use Rattle.iseq_types.specs.declared.sequences.SeqKind.TheVariants as kinds
-use Rattle.ruby_meaning.specs.Value.{Value, nil, yes, no, number, symbol_named, object, elements, Source}
+use Rattle.ruby_meaning.specs.Value.{Value, nil, yes, no, number, symbol_named, object, elements, Source, written}
 use Rattle.ruby_meaning.specs.Numbers.{object_class, type_error, frozen_error, name_error}
 use Rattle.ruby_meaning.specs.Natives.Messages.{no_change}
 use Rattle.ruby_meaning.specs.Constants.{innermost}
-use Rattle.ruby_meaning.specs.Store.{array_cells, string_cells, object_cells, variable_cells, cell_limit, new_object, new_string, is_true, is_a, has_name, variables_at, class_at, name_of_class_of}
+use Rattle.ruby_meaning.specs.Store.{array_cells, method_cells, string_cells, object_cells, variable_cells, cell_limit, new_object, new_string, is_true, is_a, has_name, variables_at, class_at, name_of_class_of}
 use Rattle.ruby_meaning.specs.Locals.{place_of, first_line_of, params_of, names_of_params}
 use Rattle.ruby_meaning.specs.Sequences.{sequence_number}
 use Rattle.ruby_meaning.specs.World.{Given, no_block, literal_block, Running, entered, World, Frame, to_loop, Outcome, Done, Raise, Break, Next, Return, Retry, Spent, Full, Run, world_of}
@@ -23,11 +23,11 @@ use Rattle.ruby_meaning.specs.Calls.{enter, enter_load, is_entered, with_step, w
 use Rattle.ruby_meaning.specs.Blocks.{run_given}
 use Rattle.ruby_meaning.specs.Files.{Files}
 use Rattle.ruby_meaning.specs.Invoke.{call_method}
-use Rattle.ruby_meaning.specs.Definitions.{read_local, set_local_in, set_local, holder, read_global, fixed_global, set_global_if, with_global, name_cost, with_constant, set_goal, path_from, path_around, closure_here, with_closure, class_number, define_method}
+use Rattle.ruby_meaning.specs.Definitions.{read_local, set_local_in, set_local, holder, read_global, fixed_global, set_global_if, with_global, name_cost, with_constant, set_goal, path_from, path_around, closure_here, with_closure, class_number, code_of, with_row, with_class_row, define_on, define_method}
 use Rattle.ruby_meaning.specs.Levels.{Scopes, Held, GoalHeld, GoalsHeld, NameHeld, is_held, level_of, slot_of}
 use Rattle.ruby_meaning.specs.Parts.{make_array, make_range, of_values, leave_home, leave_block, leave_loop, given_value, match_found, match_class, handling, in_sequence}
 use Rattle.ruby_meaning.specs.Evaluation.{set_by_send, loop, set_exception, with_block, send_with, super_with, super_to, run, run_form, run_all, run_trees, run_other, run_last, run_receiver, run_given_value, run_clauses, run_clause, run_classes, run_defaults}
-use Rattle.code_meaning.specs.Code.{at_line, row_over, Routine, rows_at, Shape, done, op, part, size, Placed, finish}
+use Rattle.code_meaning.specs.Code.{at_line, row_over, Routine, rows_at, Shape, done, op, ahead, part, size, Placed, finish}
 use Rattle.code_meaning.specs.Slots.{read_slot, set_slot, HaveNames}
 use Rattle.code_meaning.specs.Machine.{Step, goes, pends, answer, drops, branch, with_value, with_args, with_top, block_answer, call_answer, is_valued, is_bare, literal_given, value_given, block_given, sent, super_to_method, super_sent, act, step, rescue_frame, ensure_frame, entered_in, entered_at, Runs, Follows}
 use Rattle.code_meaning.proofs.Sizes.{finish_size}
@@ -496,6 +496,72 @@ module _ (files : Files) (b : Tree → Frame → Run) (seqs : ℕ → Routine) (
   range_flag true seq frame p v u st z line = refl
   range_flag false seq frame p v u st z line = refl
 
+  -- a call, and what follows its value
+  send_then : (l : Where) (seq : Routine) (frame : Frame) (out : List CatchRow) (p fin n0 : ℕ) (x : Bytes) (n flags : ℕ) (us : List Value) (self : Value) (base over st : List Value) (w : World) (c : Outcome) (next : Value → Run) → frame.first ≡ l.first → (flags ≡ 0) ⊎ (flags ≡ 1) → n ≡ length us
+      → slice_get seq.body.code p ≡ Some (at_line (line_at l n0) (plain_send x n flags)) → rows_at p seq.body.rows ≡ out → base ≡ over ++ st → G l frame w
+      → ((u : Value) (z : World) → G l frame z → A seq frame c fin st out (next u z) → R seq frame c (p + 1) (u ∷ base) z)
+      → A seq frame c fin st out (then_do (call_method files b (with_loop l frame) n0 self x us no_block false w) next) → R seq frame c p (pushed us (self ∷ base)) w
+  send_then l seq frame out p fin n0 x n flags us self base over st w c next e bit m fetch rows same le g k =
+      plain_ends l seq frame out p n0 x n flags us self base w c e bit m fetch rows
+      (after_then files b seqs bodies seq frame c (G l frame) (p + 1) fin base over st out (call_method files b (with_loop l frame) n0 self x us no_block false w) next same
+      (known.calls l.sight.scopes frame (with_loop l frame) refl n0 self x us no_block false top w (omega arith) le) g k)
+
+  -- `||=` and `&&=` of an attribute or an index, from the value that was read on
+  or_ends : (x1 : Bool) (l : Where) (seq : Routine) (frame : Frame) (out : List CatchRow) (h p line depth n0 : ℕ) (x : Bytes) (n flags : ℕ) (t : Tree) (us : Value → List Value) (self : Value) (under over st old : List Value) (u : Value) (z : World) (c : Outcome) (br : ℕ → Instr) (y : Bool)
+      → frame.first ≡ l.first → (flags ≡ 0) ⊎ (flags ≡ 1) → ((v : Value) → n ≡ length (us v)) → Placed seq.body.code seq.body.rows out h p (table.or_set line (line_at l n0) br depth x n flags (shape l t))
+      → length under ≡ h + depth → under ≡ over ++ st → High l.clause frame.handled h st → G l frame z
+      → ((q : ℕ) → act files b seqs bodies seq.kind frame (p + 1) (u ∷ (u ∷ under)) z line (br q) ≡ branch y (p + 1) q (u ∷ under) z)
+      → ((q : ℕ) (v : Value) (w : World) → act files b seqs bodies seq.kind frame q (v ∷ under) w line (SetN depth) ≡ goes (q + 1) (pushed (us v) (self ∷ (v ∷ st))) w)
+      → ((q : ℕ) → act files b seqs bodies seq.kind frame q (u ∷ under) z line (SetN depth) ≡ goes (q + 1) old z)
+      → ((q : ℕ) → act files b seqs bodies seq.kind frame q old z line (AdjustStack depth) ≡ goes (q + 1) (u ∷ st) z)
+      → D l seq frame out (h + depth) (p + 1 + 1 + 1) (finish (p + 1 + 1 + 1) (shape l t)) (run_it l frame t) → y ≡ x1
+      → A seq frame c (finish (p + 1 + 1 + 1) (shape l t) + 1 + 1 + 1 + 1 + 1 + 1) st out (choose x1 (Done u) (then (run_it l frame t) (λ v. set_by_send files top b (with_loop l frame) n0 self x (us v) v)) z) → R seq frame c p (u ∷ under) z
+  or_ends true l seq frame out h p line depth n0 x n flags t us self under over st old u z c br y e bit m pl tall same high le turn put put_old tidy d e1 k =
+      let pv = finish (p + 1 + 1 + 1) (shape l t) in let g = finish_size (shape l t) (p + 1 + 1 + 1) in
+      on seq frame c p (u ∷ under) z line Dup (p + 1) (u ∷ (u ∷ under)) z pl.0 refl
+      (on seq frame c (p + 1) (u ∷ (u ∷ under)) z line (br (p + 1 + 1 + (size (shape l t) + 5))) (pv + 1 + 1 + 1 + 1) (u ∷ under) z pl.2.0
+      (turn (p + 1 + 1 + (size (shape l t) + 5)) ∙ branch_over y (p + 1) (size (shape l t) + 5) (pv + 1 + 1 + 1 + 1) (u ∷ under) z e1 (omega arith))
+      (on seq frame c (pv + 1 + 1 + 1 + 1) (u ∷ under) z line (SetN depth) (pv + 1 + 1 + 1 + 1 + 1) old z pl.2.2.2.1.2.2.2.2.0 (put_old (pv + 1 + 1 + 1 + 1))
+      (on seq frame c (pv + 1 + 1 + 1 + 1 + 1) old z line (AdjustStack depth) (pv + 1 + 1 + 1 + 1 + 1 + 1) (u ∷ st) z pl.2.2.2.1.2.2.2.2.2.0 (tidy (pv + 1 + 1 + 1 + 1 + 1)) k)))
+  or_ends false l seq frame out h p line depth n0 x n flags t us self under over st old u z c br y e bit m pl tall same high le turn put put_old tidy d e1 k =
+      let pv = finish (p + 1 + 1 + 1) (shape l t) in
+      on seq frame c p (u ∷ under) z line Dup (p + 1) (u ∷ (u ∷ under)) z pl.0 refl
+      (on seq frame c (p + 1) (u ∷ (u ∷ under)) z line (br (p + 1 + 1 + (size (shape l t) + 5))) (p + 1 + 1) (u ∷ under) z pl.2.0
+      (turn (p + 1 + 1 + (size (shape l t) + 5)) ∙ branch_on y (p + 1) (p + 1 + 1 + (size (shape l t) + 5)) (u ∷ under) z e1)
+      (on seq frame c (p + 1 + 1) (u ∷ under) z line Pop (p + 1 + 1 + 1) under z pl.2.2.0 refl
+      (tree_then seq frame out (h + depth) (p + 1 + 1 + 1) pv (pv + 1 + 1 + 1 + 1 + 1 + 1) l t d c under over st z (λ v. set_by_send files top b (with_loop l frame) n0 self x (us v) v) high tall same le
+      (λ v z1 b1 k1. set_ends l seq frame out h pv line depth n0 x n flags (us v) self v (v ∷ under) st z1 c (pv + 1 + 1 + 1 + 1 + 1 + 1) (ahead line Jump 2 (op line (SetN depth) (op line (AdjustStack depth) done))) e bit (m v) pl.2.2.2.1 (put pv v z1)
+      (λ z2 r. jump_to seq frame c (pv + 1 + 1 + 1) 2 line (pv + 1 + 1 + 1 + 1 + 1 + 1) (v ∷ st) z2 pl.2.2.2.1.2.2.2.0 (omega arith) r) k1) k)))
+
+  -- `a.x op= t` from the value that was read on
+  operate_ends : (l : Where) (seq : Routine) (frame : Frame) (out : List CatchRow) (h p line depth n0 n1 : ℕ) (op_name x : Bytes) (n flags : ℕ) (t : Tree) (us : Value → List Value) (self : Value) (under over st : List Value) (u : Value) (z : World) (c : Outcome)
+      → frame.first ≡ l.first → (flags ≡ 0) ⊎ (flags ≡ 1) → ((v : Value) → n ≡ length (us v)) → Placed seq.body.code seq.body.rows out h p (part (suc depth) (shape l t) (op (line_at l n1) (plain_send op_name 1 0) (table.set_by_send line (line_at l n0) depth x n flags done)))
+      → length under ≡ h + depth → under ≡ over ++ st → High l.clause frame.handled h st → G l frame z
+      → ((q : ℕ) (v : Value) (w : World) → act files b seqs bodies seq.kind frame q (v ∷ under) w line (SetN depth) ≡ goes (q + 1) (pushed (us v) (self ∷ (v ∷ st))) w)
+      → D l seq frame out (h + suc depth) p (finish p (shape l t)) (run_it l frame t)
+      → A seq frame c (finish p (shape l t) + 1 + 1 + 1 + 1) st out (then_do (run_it l frame t z) (λ v. then (call_method files b (with_loop l frame) n1 u op_name (v ∷ []) no_block false) (λ r. set_by_send files top b (with_loop l frame) n0 self x (us r) r))) → R seq frame c p (u ∷ under) z
+  operate_ends l seq frame out h p line depth n0 n1 op_name x n flags t us self under over st u z c e bit m pl tall same high le put d k =
+      let pt = finish p (shape l t) in
+      tree_then seq frame out (h + suc depth) p pt (pt + 1 + 1 + 1 + 1) l t d c (u ∷ under) (u ∷ over) st z
+      (λ v. then (call_method files b (with_loop l frame) n1 u op_name (v ∷ []) no_block false) (λ r. set_by_send files top b (with_loop l frame) n0 self x (us r) r)) high (omega arith) (ap (λ y. u ∷ y) same) le
+      (λ v z1 b1 k1. send_then l seq frame out pt (pt + 1 + 1 + 1 + 1) n1 op_name 1 0 (v ∷ []) u under over st z1 c (λ r. set_by_send files top b (with_loop l frame) n0 self x (us r) r) e (inl refl) refl pl.1.0 pl.1.1 same b1
+      (λ r z2 b2 k2. set_ends l seq frame out h (pt + 1) line depth n0 x n flags (us r) self r (r ∷ under) st z2 c (pt + 1 + 1 + 1 + 1) done e bit (m r) pl.1.2 (put (pt + 1) r z2) (λ z3 y. y) k2) k1) k
+
+  -- methods
+  defined_value : (frame : Frame) (line : ℕ) (x : Bytes) (t : Tree) (f : Bool) (w : World) → define_method frame line x t f w ≡ then_do (define_method frame line x t f w) (λ u. Done (symbol_named x))
+  defined_value frame line x t false w =
+      charged_then (nat_le (w.cells + method_cells) cell_limit) method_cells w (with_row (innermost frame.code.classes) (record { name = x; body = written (code_of frame t) })) (symbol_named x)
+  defined_value frame line x t true w = by_class (class_number w.objects frame.self_value)
+    where
+      by_class : (o : Option ℕ) → define_on frame line x t o w ≡ then_do (define_on frame line x t o w) (λ u. Done (symbol_named x))
+      by_class None = sym (raised_then frame line type_error (codes "can't define singleton") w (λ u. Done (symbol_named x)))
+      by_class (Some n) = charged_then (nat_le (w.cells + method_cells) cell_limit) method_cells w (with_class_row n (record { name = x; body = written (code_of frame t) })) (symbol_named x)
+
+  method_acts : (f : Bool) (seq : Routine) (frame : Frame) (p line : ℕ) (st : List Value) (w : World) (x : Bytes) (q : ℕ) (t : Tree) → bodies q ≡ t
+      → act files b seqs bodies seq.kind frame p st w line (DefineMethod x (suc q) (table.on_self f)) ≡ drops (p + 1) st (define_method frame line x t f w)
+  method_acts true seq frame p line st w x q t e = ap (λ y. drops (p + 1) st (define_method frame line x y true w)) e
+  method_acts false seq frame p line st w x q t e = ap (λ y. drops (p + 1) st (define_method frame line x y false w)) e
+
   mutual
     pub tree_does : (t : Tree) (l : Where) (seq : Routine) (frame : Frame) (out : List CatchRow) (h p : ℕ) → StandsIn l frame → Finds seqs bodies l t → Placed seq.body.code seq.body.rows out h p (shape l t) → D l seq frame out h p (finish p (shape l t)) (run_it l frame t)
     tree_does (at s f) l seq frame out h p sd fs pl = form_does f l s seq frame out h p sd fs pl
@@ -567,12 +633,63 @@ module _ (files : Files) (b : Tree → Frame → Run) (seqs : ℕ → Routine) (
         (λ j w2 b2 k2. tree_then seq frame out (h + 3) pi pt (pt + 1 + 1 + 1) l t (tree_does t l seq frame out (h + 3) pi sd fs.2 pl.2.1.1.0) c (j ∷ (o ∷ (nil ∷ st))) (j ∷ (o ∷ (nil ∷ []))) st w2
         (λ v. set_by_send files top b (with_loop l frame) s.line o set (j ∷ (v ∷ [])) v) high (omega arith) refl b2
         (λ v w3 b3 k3. set_ends l seq frame out h pt (start l s) 3 s.line set 2 (self_flag a) (j ∷ (v ∷ [])) o v (v ∷ (j ∷ (o ∷ (nil ∷ st)))) st w3 c (pt + 1 + 1 + 1) done sd.of_first (self_bit a) refl pl.2.1.1.1 refl (λ z r. r) k3) k2) k1) k)
-    form_does (operate_attribute a x t f m n) l s seq frame out h p sd fs pl = λ c st w high le k. ?
-    form_does (or_attribute a x t m) l s seq frame out h p sd fs pl = λ c st w high le k. ?
-    form_does (and_attribute a x t m) l s seq frame out h p sd fs pl = λ c st w high le k. ?
-    form_does (operate_index a i t f n) l s seq frame out h p sd fs pl = λ c st w high le k. ?
-    form_does (or_index a i t) l s seq frame out h p sd fs pl = λ c st w high le k. ?
-    form_does (and_index a i t) l s seq frame out h p sd fs pl = λ c st w high le k. ?
+    form_does (operate_attribute a x t f m n) l s seq frame out h p sd fs pl = λ c st w high le k.
+        let pa = finish (p + 1) (shape l a) in let pv = finish (pa + 1 + 1) (shape l t) in let fin = pv + 1 + 1 + 1 + 1 in
+        on seq frame c p st w (start l s) PutNil (p + 1) (nil ∷ st) w pl.0 refl
+        (tree_then seq frame out (h + 1) (p + 1) pa fin l a (tree_does a l seq frame out (h + 1) (p + 1) sd fs.0 pl.2.0) c (nil ∷ st) (nil ∷ []) st w
+        (λ o. then (call_method files b (with_loop l frame) s.line o x [] no_block false) (λ u. then (run_it l frame t) (λ v. then (call_method files b (with_loop l frame) n u f (v ∷ []) no_block false) (λ r. set_by_send files top b (with_loop l frame) s.line o m (r ∷ []) r)))) high (omega arith) refl le
+        (λ o w1 b1 k1. on seq frame c pa (o ∷ (nil ∷ st)) w1 (start l s) Dup (pa + 1) (o ∷ (o ∷ (nil ∷ st))) w1 pl.2.1.0 refl
+        (send_then l seq frame out (pa + 1) fin s.line x 0 (self_flag a) [] o (o ∷ (nil ∷ st)) (o ∷ (nil ∷ [])) st w1 c (λ u. then (run_it l frame t) (λ v. then (call_method files b (with_loop l frame) n u f (v ∷ []) no_block false) (λ r. set_by_send files top b (with_loop l frame) s.line o m (r ∷ []) r))) sd.of_first (self_bit a) refl pl.2.1.2.0 pl.2.1.2.1 refl b1
+        (λ u w2 b2 k2. operate_ends l seq frame out h (pa + 1 + 1) (start l s) 2 s.line n f m 1 (self_flag a) t (λ r. r ∷ []) o (o ∷ (nil ∷ st)) (o ∷ (nil ∷ [])) st u w2 c sd.of_first (self_bit a) (λ v. refl) pl.2.1.2.2 (omega (arith, high.tall)) refl high b2 (λ q v z. refl) (tree_does t l seq frame out (h + 3) (pa + 1 + 1) sd fs.1 pl.2.1.2.2.0) k2) k1)) k)
+    form_does (or_attribute a x t m) l s seq frame out h p sd fs pl = λ c st w high le k.
+        let pa = finish (p + 1) (shape l a) in let pv = finish (pa + 1 + 1 + 1 + 1 + 1) (shape l t) in let fin = pv + 1 + 1 + 1 + 1 + 1 + 1 in
+        on seq frame c p st w (start l s) PutNil (p + 1) (nil ∷ st) w pl.0 refl
+        (tree_then seq frame out (h + 1) (p + 1) pa fin l a (tree_does a l seq frame out (h + 1) (p + 1) sd fs.0 pl.2.0) c (nil ∷ st) (nil ∷ []) st w
+        (λ o. then (call_method files b (with_loop l frame) s.line o x [] no_block false) (λ u. choose (is_true u) (Done u) (then (run_it l frame t) (λ v. set_by_send files top b (with_loop l frame) s.line o m (v ∷ []) v)))) high (omega arith) refl le
+        (λ o w1 b1 k1. on seq frame c pa (o ∷ (nil ∷ st)) w1 (start l s) Dup (pa + 1) (o ∷ (o ∷ (nil ∷ st))) w1 pl.2.1.0 refl
+        (send_then l seq frame out (pa + 1) fin s.line x 0 (self_flag a) [] o (o ∷ (nil ∷ st)) (o ∷ (nil ∷ [])) st w1 c (λ u. choose (is_true u) (Done u) (then (run_it l frame t) (λ v. set_by_send files top b (with_loop l frame) s.line o m (v ∷ []) v))) sd.of_first (self_bit a) refl pl.2.1.2.0 pl.2.1.2.1 refl b1
+        (λ u w2 b2 k2. or_ends (is_true u) l seq frame out h (pa + 1 + 1) (start l s) 2 s.line m 1 (self_flag a) t (λ v. v ∷ []) o (o ∷ (nil ∷ st)) (o ∷ (nil ∷ [])) st (u ∷ (o ∷ (u ∷ st))) u w2 c BranchIf (is_true u) sd.of_first (self_bit a) (λ v. refl) pl.2.1.2.2 (omega (arith, high.tall)) refl high b2 (λ q. refl) (λ q v z. refl) (λ q. refl) (λ q. refl) (tree_does t l seq frame out (h + 2) (pa + 1 + 1 + 1 + 1 + 1) sd fs.1 pl.2.1.2.2.2.2.2.0) refl k2) k1)) k)
+    form_does (and_attribute a x t m) l s seq frame out h p sd fs pl = λ c st w high le k.
+        let pa = finish (p + 1) (shape l a) in let pv = finish (pa + 1 + 1 + 1 + 1 + 1) (shape l t) in let fin = pv + 1 + 1 + 1 + 1 + 1 + 1 in
+        on seq frame c p st w (start l s) PutNil (p + 1) (nil ∷ st) w pl.0 refl
+        (tree_then seq frame out (h + 1) (p + 1) pa fin l a (tree_does a l seq frame out (h + 1) (p + 1) sd fs.0 pl.2.0) c (nil ∷ st) (nil ∷ []) st w
+        (λ o. then (call_method files b (with_loop l frame) s.line o x [] no_block false) (λ u. choose (is_true u) (then (run_it l frame t) (λ v. set_by_send files top b (with_loop l frame) s.line o m (v ∷ []) v)) (Done u))) high (omega arith) refl le
+        (λ o w1 b1 k1. on seq frame c pa (o ∷ (nil ∷ st)) w1 (start l s) Dup (pa + 1) (o ∷ (o ∷ (nil ∷ st))) w1 pl.2.1.0 refl
+        (send_then l seq frame out (pa + 1) fin s.line x 0 (self_flag a) [] o (o ∷ (nil ∷ st)) (o ∷ (nil ∷ [])) st w1 c (λ u. choose (is_true u) (then (run_it l frame t) (λ v. set_by_send files top b (with_loop l frame) s.line o m (v ∷ []) v)) (Done u)) sd.of_first (self_bit a) refl pl.2.1.2.0 pl.2.1.2.1 refl b1
+        (λ u w2 b2 k2. or_ends (not (is_true u)) l seq frame out h (pa + 1 + 1) (start l s) 2 s.line m 1 (self_flag a) t (λ v. v ∷ []) o (o ∷ (nil ∷ st)) (o ∷ (nil ∷ [])) st (u ∷ (o ∷ (u ∷ st))) u w2 c BranchUnless (not (is_true u)) sd.of_first (self_bit a) (λ v. refl) pl.2.1.2.2 (omega (arith, high.tall)) refl high b2 (λ q. refl) (λ q v z. refl) (λ q. refl) (λ q. refl) (tree_does t l seq frame out (h + 2) (pa + 1 + 1 + 1 + 1 + 1) sd fs.1 pl.2.1.2.2.2.2.2.0) refl (subst (λ y. A seq frame c fin st out y) (choose_not (is_true u) (then (run_it l frame t) (λ v. set_by_send files top b (with_loop l frame) s.line o m (v ∷ []) v)) (Done u) w2) k2)) k1)) k)
+    form_does (operate_index a i t f n) l s seq frame out h p sd fs pl = λ c st w high le k.
+        let pa = finish (p + 1) (shape l a) in let pi = finish pa (shape l i) in let pr = pi + 1 + 1 + 1 in let pv = finish (pr) (shape l t) in let fin = pv + 1 + 1 + 1 + 1 in let set = codes "[]=" in
+        on seq frame c p st w (start l s) PutNil (p + 1) (nil ∷ st) w pl.0 refl
+        (tree_then seq frame out (h + 1) (p + 1) pa fin l a (tree_does a l seq frame out (h + 1) (p + 1) sd fs.0 pl.2.0) c (nil ∷ st) (nil ∷ []) st w
+        (λ o. then (run_it l frame i) (λ j. then (call_method files b (with_loop l frame) s.line o (codes "[]") (j ∷ []) no_block false) (λ u. then (run_it l frame t) (λ v. then (call_method files b (with_loop l frame) n u f (v ∷ []) no_block false) (λ r. set_by_send files top b (with_loop l frame) s.line o set (j ∷ (r ∷ [])) r))))) high (omega arith) refl le
+        (λ o w1 b1 k1. tree_then seq frame out (h + 2) pa pi fin l i (tree_does i l seq frame out (h + 2) pa sd fs.1 pl.2.1.0) c (o ∷ (nil ∷ st)) (o ∷ (nil ∷ [])) st w1
+        (λ j. then (call_method files b (with_loop l frame) s.line o (codes "[]") (j ∷ []) no_block false) (λ u. then (run_it l frame t) (λ v. then (call_method files b (with_loop l frame) n u f (v ∷ []) no_block false) (λ r. set_by_send files top b (with_loop l frame) s.line o set (j ∷ (r ∷ [])) r)))) high (omega arith) refl b1
+        (λ j w3 b3 k3. on seq frame c pi (j ∷ (o ∷ (nil ∷ st))) w3 (start l s) (TopN 1) (pi + 1) (o ∷ (j ∷ (o ∷ (nil ∷ st)))) w3 pl.2.1.1.0 refl
+        (on seq frame c (pi + 1) (o ∷ (j ∷ (o ∷ (nil ∷ st)))) w3 (start l s) (TopN 1) (pi + 1 + 1) (j ∷ (o ∷ (j ∷ (o ∷ (nil ∷ st))))) w3 pl.2.1.1.2.0 refl
+        (send_then l seq frame out (pi + 1 + 1) fin s.line (codes "[]") 1 (self_flag a) (j ∷ []) o (j ∷ (o ∷ (nil ∷ st))) (j ∷ (o ∷ (nil ∷ []))) st w3 c (λ u. then (run_it l frame t) (λ v. then (call_method files b (with_loop l frame) n u f (v ∷ []) no_block false) (λ r. set_by_send files top b (with_loop l frame) s.line o set (j ∷ (r ∷ [])) r))) sd.of_first (self_bit a) refl pl.2.1.1.2.2.0 pl.2.1.1.2.2.1 refl b3
+        (λ u w2 b2 k2. operate_ends l seq frame out h pr (start l s) 3 s.line n f set 2 (self_flag a) t (λ r. j ∷ (r ∷ [])) o (j ∷ (o ∷ (nil ∷ st))) (j ∷ (o ∷ (nil ∷ []))) st u w2 c sd.of_first (self_bit a) (λ v. refl) pl.2.1.1.2.2.2 (omega (arith, high.tall)) refl high b2 (λ q v z. refl) (tree_does t l seq frame out (h + 4) pr sd fs.2 pl.2.1.1.2.2.2.0) k2) k3))) k1) k)
+    form_does (or_index a i t) l s seq frame out h p sd fs pl = λ c st w high le k.
+        let pa = finish (p + 1) (shape l a) in let pi = finish pa (shape l i) in let pr = pi + 1 + 1 + 1 in let pv = finish (pr + 1 + 1 + 1) (shape l t) in let fin = pv + 1 + 1 + 1 + 1 + 1 + 1 in let set = codes "[]=" in
+        on seq frame c p st w (start l s) PutNil (p + 1) (nil ∷ st) w pl.0 refl
+        (tree_then seq frame out (h + 1) (p + 1) pa fin l a (tree_does a l seq frame out (h + 1) (p + 1) sd fs.0 pl.2.0) c (nil ∷ st) (nil ∷ []) st w
+        (λ o. then (run_it l frame i) (λ j. then (call_method files b (with_loop l frame) s.line o (codes "[]") (j ∷ []) no_block false) (λ u. choose (is_true u) (Done u) (then (run_it l frame t) (λ v. set_by_send files top b (with_loop l frame) s.line o set (j ∷ (v ∷ [])) v))))) high (omega arith) refl le
+        (λ o w1 b1 k1. tree_then seq frame out (h + 2) pa pi fin l i (tree_does i l seq frame out (h + 2) pa sd fs.1 pl.2.1.0) c (o ∷ (nil ∷ st)) (o ∷ (nil ∷ [])) st w1
+        (λ j. then (call_method files b (with_loop l frame) s.line o (codes "[]") (j ∷ []) no_block false) (λ u. choose (is_true u) (Done u) (then (run_it l frame t) (λ v. set_by_send files top b (with_loop l frame) s.line o set (j ∷ (v ∷ [])) v)))) high (omega arith) refl b1
+        (λ j w3 b3 k3. on seq frame c pi (j ∷ (o ∷ (nil ∷ st))) w3 (start l s) (TopN 1) (pi + 1) (o ∷ (j ∷ (o ∷ (nil ∷ st)))) w3 pl.2.1.1.0 refl
+        (on seq frame c (pi + 1) (o ∷ (j ∷ (o ∷ (nil ∷ st)))) w3 (start l s) (TopN 1) (pi + 1 + 1) (j ∷ (o ∷ (j ∷ (o ∷ (nil ∷ st))))) w3 pl.2.1.1.2.0 refl
+        (send_then l seq frame out (pi + 1 + 1) fin s.line (codes "[]") 1 (self_flag a) (j ∷ []) o (j ∷ (o ∷ (nil ∷ st))) (j ∷ (o ∷ (nil ∷ []))) st w3 c (λ u. choose (is_true u) (Done u) (then (run_it l frame t) (λ v. set_by_send files top b (with_loop l frame) s.line o set (j ∷ (v ∷ [])) v))) sd.of_first (self_bit a) refl pl.2.1.1.2.2.0 pl.2.1.1.2.2.1 refl b3
+        (λ u w2 b2 k2. or_ends (is_true u) l seq frame out h pr (start l s) 3 s.line set 2 (self_flag a) t (λ v. j ∷ (v ∷ [])) o (j ∷ (o ∷ (nil ∷ st))) (j ∷ (o ∷ (nil ∷ []))) st (u ∷ (j ∷ (o ∷ (u ∷ st)))) u w2 c BranchIf (is_true u) sd.of_first (self_bit a) (λ v. refl) pl.2.1.1.2.2.2 (omega (arith, high.tall)) refl high b2 (λ q. refl) (λ q v z. refl) (λ q. refl) (λ q. refl) (tree_does t l seq frame out (h + 3) (pr + 1 + 1 + 1) sd fs.2 pl.2.1.1.2.2.2.2.2.2.0) refl k2) k3))) k1) k)
+    form_does (and_index a i t) l s seq frame out h p sd fs pl = λ c st w high le k.
+        let pa = finish (p + 1) (shape l a) in let pi = finish pa (shape l i) in let pr = pi + 1 + 1 + 1 in let pv = finish (pr + 1 + 1 + 1) (shape l t) in let fin = pv + 1 + 1 + 1 + 1 + 1 + 1 in let set = codes "[]=" in
+        on seq frame c p st w (start l s) PutNil (p + 1) (nil ∷ st) w pl.0 refl
+        (tree_then seq frame out (h + 1) (p + 1) pa fin l a (tree_does a l seq frame out (h + 1) (p + 1) sd fs.0 pl.2.0) c (nil ∷ st) (nil ∷ []) st w
+        (λ o. then (run_it l frame i) (λ j. then (call_method files b (with_loop l frame) s.line o (codes "[]") (j ∷ []) no_block false) (λ u. choose (is_true u) (then (run_it l frame t) (λ v. set_by_send files top b (with_loop l frame) s.line o set (j ∷ (v ∷ [])) v)) (Done u)))) high (omega arith) refl le
+        (λ o w1 b1 k1. tree_then seq frame out (h + 2) pa pi fin l i (tree_does i l seq frame out (h + 2) pa sd fs.1 pl.2.1.0) c (o ∷ (nil ∷ st)) (o ∷ (nil ∷ [])) st w1
+        (λ j. then (call_method files b (with_loop l frame) s.line o (codes "[]") (j ∷ []) no_block false) (λ u. choose (is_true u) (then (run_it l frame t) (λ v. set_by_send files top b (with_loop l frame) s.line o set (j ∷ (v ∷ [])) v)) (Done u))) high (omega arith) refl b1
+        (λ j w3 b3 k3. on seq frame c pi (j ∷ (o ∷ (nil ∷ st))) w3 (start l s) (TopN 1) (pi + 1) (o ∷ (j ∷ (o ∷ (nil ∷ st)))) w3 pl.2.1.1.0 refl
+        (on seq frame c (pi + 1) (o ∷ (j ∷ (o ∷ (nil ∷ st)))) w3 (start l s) (TopN 1) (pi + 1 + 1) (j ∷ (o ∷ (j ∷ (o ∷ (nil ∷ st))))) w3 pl.2.1.1.2.0 refl
+        (send_then l seq frame out (pi + 1 + 1) fin s.line (codes "[]") 1 (self_flag a) (j ∷ []) o (j ∷ (o ∷ (nil ∷ st))) (j ∷ (o ∷ (nil ∷ []))) st w3 c (λ u. choose (is_true u) (then (run_it l frame t) (λ v. set_by_send files top b (with_loop l frame) s.line o set (j ∷ (v ∷ [])) v)) (Done u)) sd.of_first (self_bit a) refl pl.2.1.1.2.2.0 pl.2.1.1.2.2.1 refl b3
+        (λ u w2 b2 k2. or_ends (not (is_true u)) l seq frame out h pr (start l s) 3 s.line set 2 (self_flag a) t (λ v. j ∷ (v ∷ [])) o (j ∷ (o ∷ (nil ∷ st))) (j ∷ (o ∷ (nil ∷ []))) st (u ∷ (j ∷ (o ∷ (u ∷ st)))) u w2 c BranchUnless (not (is_true u)) sd.of_first (self_bit a) (λ v. refl) pl.2.1.1.2.2.2 (omega (arith, high.tall)) refl high b2 (λ q. refl) (λ q v z. refl) (λ q. refl) (λ q. refl) (tree_does t l seq frame out (h + 3) (pr + 1 + 1 + 1) sd fs.2 pl.2.1.1.2.2.2.2.2.2.0) refl (subst (λ y. A seq frame c fin st out y) (choose_not (is_true u) (then (run_it l frame t) (λ v. set_by_send files top b (with_loop l frame) s.line o set (j ∷ (v ∷ [])) v)) (Done u) w2) k2)) k3))) k1) k)
     form_does (send o ts ks v x bare t) l s seq frame out h p sd fs pl = λ c st w high le k.
         let fin = finish p (form_shape l (send o ts ks v x bare t) s) in let flags = receiver_flag o + value_flag v + bare_flag bare in
         receiver_does o l seq frame out h p (start l s) _ sd fs.0 pl c st w fin
@@ -670,7 +787,10 @@ module _ (files : Files) (b : Tree → Frame → Run) (seqs : ℕ → Routine) (
         (ensure_part e l frame z sd fs.2 b1))) c st high w le k
     form_does (case_of a ws o) l s seq frame out h p sd fs pl = λ c st w high le k. ?
     form_does (case_tests ws o) l s seq frame out h p sd fs pl = λ c st w high le k. ?
-    form_does (method x t f) l s seq frame out h p sd fs pl = λ c st w high le k. ?
+    form_does (method x t f) l s seq frame out h p sd fs pl = λ c st w high le k.
+        dropped seq frame c p (p + 1) (p + 1 + 1) st st st [] w out (own l s) (DefineMethod x (suc (number_of l t)) (table.on_self f)) (define_method frame (own l s) x t f w) (λ u. Done (symbol_named x)) pl.0 pl.1
+        (method_acts f seq frame p (own l s) st w x (number_of l t) t fs) refl (λ u z k1. on seq frame c (p + 1) st z (own l s) (PutObject (Sym x)) (p + 1 + 1) (symbol_named x ∷ st) z pl.2.0 refl k1)
+        (subst (λ o. A seq frame c (p + 1 + 1) st out o) (ap (λ g. g w) (method_defined_same (with_loop l frame) frame s.line (own l s) refl (own_lines l frame sd.of_first s.line) x t f) ∙ defined_value frame (own l s) x t f w) k)
     form_does (class o x t) l s seq frame out h p sd fs pl = λ c st w high le k. ?
     form_does (module_named x t) l s seq frame out h p sd fs pl = λ c st w high le k. ?
     form_does (rescue_sequence cs) l s seq frame out h p sd fs pl = absurd fs
