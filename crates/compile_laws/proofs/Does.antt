@@ -1,5 +1,5 @@
 -- The code of a tree does what the tree means.
-use Rattle.std.proofs.Common.{zero, ◌≡◌, ℕ, suc, pred, ◌+◌, ◌-◌, ◌≤◌, ◌<◌, ◌⊎◌, inl, inr, Bool, true, false, not, cond, refl, sym, subst, ap, ◌∙◌, arith, List, [], ◌∷◌, ◌++◌, length, Option, Some, None, length-append}
+use Rattle.std.proofs.Common.{zero, ◌≡◌, ℕ, suc, pred, ◌+◌, ◌-◌, ◌≤◌, ◌<◌, ◌⊎◌, inl, inr, Bool, true, false, not, cond, refl, sym, subst, ap, ◌∙◌, arith, List, [], ◌∷◌, ◌++◌, length, Option, Some, None, length-append, append_assoc}
 use Rattle.std.specs.Prelude.{slice_get, nat_le, codes, map, ◌*◌, pos, nat_eq}
 use Rattle.bs_outside.specs.Paths.{parent_of}
 use Rattle.ruby_tree.specs.Names.{Bytes}
@@ -19,28 +19,28 @@ use Rattle.ruby_meaning.specs.Locals.{place_of, first_line_of, params_of, names_
 use Rattle.ruby_meaning.specs.Sequences.{sequence_number}
 use Rattle.ruby_meaning.specs.World.{Given, no_block, literal_block, Running, entered, World, Frame, to_loop, Outcome, Done, Raise, Break, Next, Return, Retry, Spent, Full, Run, world_of}
 use Rattle.ruby_meaning.specs.Steps.{changing, then_do, then, reading, choose, charged, make, make_string, exception_of, raise_new, line_in, stand_in, stand, broken}
-use Rattle.ruby_meaning.specs.Calls.{enter, enter_load, is_entered, with_step, with_entry, spread, spread_from, variable_of, set_in, settable, first_cost, with_variable, no_method}
+use Rattle.ruby_meaning.specs.Calls.{enter, enter_load, is_entered, with_step, with_entry, call_fault, call_fault_class, spread, spread_from, variable_of, set_in, settable, first_cost, with_variable, no_method}
 use Rattle.ruby_meaning.specs.Blocks.{run_given}
 use Rattle.ruby_meaning.specs.Files.{Files}
 use Rattle.ruby_meaning.specs.Invoke.{call_method}
 use Rattle.ruby_meaning.specs.Definitions.{read_local, set_local_in, set_local, holder, read_global, fixed_global, set_global_if, with_global, name_cost, with_constant, set_goal, path_from, path_around, closure_here, with_closure, class_number, code_of, with_row, with_class_row, define_on, define_method}
 use Rattle.ruby_meaning.specs.Levels.{Scopes, Held, GoalHeld, GoalsHeld, NameHeld, is_held, level_of, slot_of}
-use Rattle.ruby_meaning.specs.Parts.{make_array, make_range, of_values, leave_home, leave_block, leave_loop, given_value, match_found, match_class, handling, in_sequence}
-use Rattle.ruby_meaning.specs.Evaluation.{set_by_send, loop, set_exception, with_block, send_with, super_with, super_to, run, run_form, run_all, run_trees, run_other, run_last, run_receiver, run_given_value, run_clauses, run_clause, run_classes, run_defaults}
+use Rattle.ruby_meaning.specs.Parts.{make_array, make_hash, make_range, of_values, leave_home, leave_block, leave_loop, given_value, match_found, match_class, handling, in_sequence}
+use Rattle.ruby_meaning.specs.Evaluation.{unless_nil, run_pairs, set_by_send, loop, set_exception, with_block, send_with, super_with, super_to, run, run_form, run_all, run_trees, run_other, run_last, run_receiver, run_given_value, run_clauses, run_clause, run_classes, run_defaults}
 use Rattle.code_meaning.specs.Code.{at_line, row_over, Routine, rows_at, Shape, done, op, ahead, part, size, Placed, finish}
 use Rattle.code_meaning.specs.Slots.{read_slot, set_slot, HaveNames}
-use Rattle.code_meaning.specs.Machine.{Step, goes, pends, answer, drops, branch, with_value, with_args, with_top, block_answer, call_answer, is_valued, is_bare, literal_given, value_given, block_given, sent, super_to_method, super_sent, act, step, rescue_frame, ensure_frame, entered_in, entered_at, Runs, Follows}
+use Rattle.code_meaning.specs.Machine.{is_nil, pairs_of, Step, goes, pends, answer, drops, branch, with_value, with_args, with_top, block_answer, call_answer, is_valued, is_bare, literal_given, value_given, block_given, sent, super_to_method, super_sent, act, step, rescue_frame, ensure_frame, entered_in, entered_at, Runs, Follows}
 use Rattle.code_meaning.proofs.Sizes.{finish_size}
 use Rattle.code_meaning.proofs.Placing.{placed}
 use Rattle.compile_table.specs.Shapes as table
-use Rattle.compile_table.specs.Shapes.{Where, looped, line_or, line_at, own, start, count, is_self_form, self_flag, receiver_flag, value_flag, bare_flag, plain_send, number_of, with_literal, path_start, throw_by, named, in_rescue, in_ensure, get_local, shape, form_shape, params_shape, all_shape, rest_shape, args_shape, path_shape, receiver_shape, value_shape, other_shape, last_shape, values_shape, clauses_shape, clause_shape, classes_shape, bodies_shape}
+use Rattle.compile_table.specs.Shapes.{Where, looped, line_or, line_at, own, start, count, is_self_form, self_flag, receiver_flag, value_flag, bare_flag, plain_send, number_of, with_literal, path_start, throw_by, named, in_rescue, in_ensure, get_local, shape, form_shape, count_pairs, pairs_shape, params_shape, all_shape, rest_shape, args_shape, path_shape, receiver_shape, value_shape, other_shape, last_shape, values_shape, clauses_shape, clause_shape, classes_shape, bodies_shape}
 use Rattle.compile_laws.specs.Likeness.{core, with_flag}
-use Rattle.compile_laws.specs.Finds.{part_routine, body_routine, FindsBlock, Finds, FindsForm, FindsTrees, FindsOther, FindsRescue, FindsRescueForm, FindsEnsure, FindsEnsureForm, FindsClauses, FindsParams, Stands, StandsIn, entry}
+use Rattle.compile_laws.specs.Finds.{part_routine, body_routine, FindsBlock, Finds, FindsForm, AllHeld, FindsPairs, FindsTrees, FindsOther, FindsRescue, FindsRescueForm, FindsEnsure, FindsEnsureForm, FindsClauses, FindsParams, Stands, StandsIn, entry}
 use Rattle.compile_laws.proofs.AlikeCalls.{raising_same, no_method_same, range_same, path_same, around_same, goal_same, method_defined_same, open_same, class_named_same, class_below_same, module_same, home_same, leave_same, given_same, given_block_same, call_same, super_same}
 use Rattle.compile_laws.proofs.After.{deeper_pending, leap_ahead, Pending, After, here, go, pend, answers, after_then}
 use Rattle.compile_laws.proofs.Ready.{Ready, KeepsReady}
 use Rattle.compile_laws.proofs.Control.{emptied, Does, turn_ends, turns_run, rescues_run, ensures_run}
-use Rattle.compile_laws.proofs.Stack.{High, plus_zero, high_over, item_last, pushed, pushed_last, pushed_length, pushed_over, args_off}
+use Rattle.compile_laws.proofs.Stack.{append_none, High, plus_zero, high_over, item_last, pushed, pushed_last, pushed_length, pushed_over, args_off}
 use Rattle.compile_laws.proofs.Clauses.{clauses_step, clauses_tail, named_tail}
 use Rattle.compile_laws.proofs.Leave.{enter_turns, whole_then, emptied_then, left_with, raised_end, block_ends}
 
@@ -562,6 +562,264 @@ module _ (files : Files) (b : Tree → Frame → Run) (seqs : ℕ → Routine) (
   method_acts true seq frame p line st w x q t e = ap (λ y. drops (p + 1) st (define_method frame line x y true w)) e
   method_acts false seq frame p line st w x q t e = ap (λ y. drops (p + 1) st (define_method frame line x y false w)) e
 
+  flags_safe : (n : ℕ) (v : Other) → (n ≡ 0) ⊎ (n ≡ 1) → is_valued (n + value_flag v) ≡ is_with v
+  flags_safe n without (inl e) = ap (λ x. is_valued (x + 0)) e
+  flags_safe n without (inr e) = ap (λ x. is_valued (x + 0)) e
+  flags_safe n (with t) (inl e) = ap (λ x. is_valued (x + 2)) e
+  flags_safe n (with t) (inr e) = ap (λ x. is_valued (x + 2)) e
+
+  bare_safe : (n : ℕ) (v : Other) → (n ≡ 0) ⊎ (n ≡ 1) → is_bare (n + value_flag v) ≡ false
+  bare_safe n without (inl e) = ap (λ x. is_bare (x + 0)) e
+  bare_safe n without (inr e) = ap (λ x. is_bare (x + 0)) e
+  bare_safe n (with t) (inl e) = ap (λ x. is_bare (x + 2)) e
+  bare_safe n (with t) (inr e) = ap (λ x. is_bare (x + 2)) e
+
+  nil_or : (v : Value) → (v ≡ nil) ⊎ ((is_nil v ≡ false) × ((go : Run) → unless_nil v go ≡ go))
+  nil_or nil = inl refl
+  nil_or v = inr (refl, λ go. refl)
+
+  flag_super : (v : Other) → is_valued (1 + value_flag v) ≡ is_with v
+  flag_super without = refl
+  flag_super (with t) = refl
+
+  super_acts : (seq : Routine) (frame : Frame) (q : ℕ) (stk : List Value) (z : World) (line n : ℕ) (ks : List ℕ) (flags : ℕ) (valued : Bool) (g : Option Value) (us : List Value) (self : Value) (st : List Value)
+      → is_valued flags ≡ valued → n ≡ length us → ((next : Option Value → List Value → Step) → with_value valued stk next ≡ next g (pushed us (self ∷ st)))
+      → (j : ℕ) → act files b seqs bodies seq.kind frame q stk z line (InvokeSuper n ks flags j) ≡ call_answer j (length z.closures) (q + 1) st (super_sent files b seqs bodies j frame line ks us g z)
+  super_acts seq frame q stk z line n ks flags valued g us self st e1 m taken j =
+      ap (λ y. with_value y stk (λ v st1. with_args n [] st1 (λ vs st2. with_top st2 (λ u rest. call_answer j (length z.closures) (q + 1) rest (super_sent files b seqs bodies j frame line ks vs v z))))) e1
+      ∙ taken _ ∙ args_off us (self ∷ st) n _ m
+
+  to_same : (l : Where) (frame : Frame) → frame.first ≡ l.first → (n : ℕ) (m : Option Running) (given : Given) (ys : List Value)
+      → super_to files top b m (with_loop l frame) n without given ys ≡ super_to_method files b seqs bodies m 0 frame (line_at l n) ys given
+  to_same l frame e n None given ys = no_method_same (with_loop l frame) frame n (line_at l n) refl (own_lines l frame e n) frame.self_value [] false
+  to_same l frame e n (Some r) given ys = super_same (with_loop l frame) frame n (line_at l n) refl (own_lines l frame e n) files b top ys given r given
+
+  super_means : (t v : Other) (l : Where) (frame : Frame) → frame.first ≡ l.first → FindsBlock seqs bodies l t v → (n : ℕ) (ks : List ℕ) (us : List Value) (g : Option Value) (z : World) → (is_with v ≡ false → g ≡ None)
+      → Means l t (length z.closures) (λ j. super_sent files b seqs bodies j frame (line_at l n) ks us g z) (value_given (with_loop l frame) n frame.block g (λ given. reading (spread ks us) (λ ys. super_to files top b frame.method (with_loop l frame) n t given ys)) z)
+  super_means without v l frame e fs n ks us None z only = sym (ap (λ f. f z) (to_same l frame e n frame.method frame.block (spread ks us z)))
+  super_means without v l frame e fs n ks us (Some y) z only =
+      sym (ap (λ f. f z) (given_same (with_loop l frame) frame n (line_at l n) refl (own_lines l frame e n) y
+      (λ given. reading (spread ks us) (λ ys. super_to files top b frame.method (with_loop l frame) n without given ys)) (λ given. reading (spread ks us) (λ ys. super_to_method files b seqs bodies frame.method 0 frame (line_at l n) ys given))
+      (λ i given w. to_same l frame e n frame.method given (spread ks us w) i w)))
+  super_means (with t) (with u) l frame e fs n ks us g z only = absurd fs
+  super_means (with t) without l frame e fs n ks us (Some y) z only = absurd (let r : Some y ≡ None = only refl in cc)
+  super_means (with t) without l frame e fs n ks us None z only = by_method frame.method
+    where
+      by_method : (m : Option Running) → broken (length z.closures) (super_to_method files b seqs bodies m (suc (number_of l t)) frame (line_at l n) (spread ks us z) frame.block z) ≡ super_to files top b m (with_loop l frame) n (with t) frame.block (spread ks us z) z
+      by_method None =
+          raised_broken (length z.closures) frame (line_at l n) (call_fault_class false) (call_fault false [] (name_of_class_of z.objects frame.self_value)) z
+          ∙ sym (ap (λ f. f z) (no_method_same (with_loop l frame) frame n (line_at l n) refl (own_lines l frame e n) frame.self_value [] false))
+      by_method (Some r) =
+          ap (λ y. broken (length z.closures) (literal_given frame y (super_with files top b (line_at l n) (spread ks us z) frame.block r) z)) fs
+          ∙ ap (broken (length z.closures)) (sym (ap (λ f. f (with_closure (closure_here frame t) z)) (super_same (with_loop l (record frame { calling = length z.closures ∷ frame.calling })) (record frame { calling = length z.closures ∷ frame.calling }) n (line_at l n) refl
+          (own_lines l (record frame { calling = length z.closures ∷ frame.calling }) e n) files b top (spread ks us z) frame.block r (literal_block (length z.closures)))))
+
+  -- the values of locals, pushed in order
+  gets_does : (xs : List Bytes) (l : Where) (seq : Routine) (frame : Frame) (out : List CatchRow) (h p line : ℕ) (s : Shape) → AllHeld l.sight xs → Placed seq.body.code seq.body.rows out h p (table.gets l line xs s)
+      → (c : Outcome) (under : List Value) (w : World) (fin : ℕ) (vs : List Value) → finish p (table.gets l line xs s) ≡ fin → G l frame w
+      → ((us : List Value) (q : ℕ) → Placed seq.body.code seq.body.rows out h q s → finish q s ≡ fin → us ≡ vs ++ map (λ x. read_local frame x w) xs → R seq frame c q (pushed us under) w) → R seq frame c p (pushed vs under) w
+  gets_does [] l seq frame out h p line s held pl c under w fin vs e le g = g vs p pl e (sym (append_none vs))
+  gets_does (x ∷ xs) l seq frame out h p line s held pl c under w fin vs e le g =
+      let v : Value = read_local frame x w in
+      on seq frame c p (pushed vs under) w line (get_local l x) (p + 1) (v ∷ pushed vs under) w pl.0 (ap (λ y. goes (p + 1) (y ∷ pushed vs under) w) (known.reads l.sight.scopes frame top x w le held.0))
+      (subst (λ y. R seq frame c (p + 1) y w) (pushed_last vs v under)
+      (gets_does xs l seq frame out h (p + 1) line s held.1 pl.2 c under w fin (vs ++ v ∷ []) e le (λ us q pl1 e1 same. g us q pl1 e1 (same ∙ append_assoc vs (v ∷ []) (map (λ y. read_local frame y w) xs)))))
+
+  map_length : (f : Bytes → Value) (xs : List Bytes) → length (map f xs) ≡ length xs
+  map_length f [] = refl
+  map_length f (x ∷ xs) = ap suc (map_length f xs)
+
+  -- keys and values on the stack
+  abbrev flat : List (Value × Value) → List Value
+  flat [] = []
+  flat (q ∷ qs) = q.0 ∷ (q.1 ∷ flat qs)
+
+  flat_pairs : (qs : List (Value × Value)) → pairs_of (flat qs) ≡ qs
+  flat_pairs [] = refl
+  flat_pairs (q ∷ qs) = ap (λ x. q ∷ x) (flat_pairs qs)
+
+  flat_last : (qs : List (Value × Value)) (k v : Value) (st : List Value) → pushed (flat (qs ++ (k, v) ∷ [])) st ≡ v ∷ (k ∷ pushed (flat qs) st)
+  flat_last [] k v st = refl
+  flat_last (q ∷ qs) k v st = flat_last qs k v (q.1 ∷ (q.0 ∷ st))
+
+  flat_length : (qs : List (Value × Value)) → length (flat qs) ≡ length qs + length qs
+  flat_length [] = refl
+  flat_length (q ∷ qs) = let e = flat_length qs in omega arith
+
+  -- what the code of a tree does, wherever it stands
+  abbrev T : Where → Routine → Frame → Tree → Type 0
+  T l seq frame t = (out : List CatchRow) (h p : ℕ) → Placed seq.body.code seq.body.rows out h p (shape l t) → D l seq frame out h p (finish p (shape l t)) (run_it l frame t)
+
+  abbrev TL : Where → Routine → Frame → Tree → Type 0
+  TL l seq frame t = T (looped l) seq frame t
+
+  form_range_ends : (a : Tree) (e : Tree) (x : Bool) (l : Where) (s : SourcePosition) (seq : Routine) (frame : Frame) (out : List CatchRow) (h p : ℕ) → StandsIn l frame → T l seq frame a → T l seq frame e → FindsForm seqs bodies l (range a e x) → Placed seq.body.code seq.body.rows out h p (form_shape l (range a e x) s)
+      → D l seq frame out h p (finish p (form_shape l (range a e x) s)) (run_form files top b (range a e x) s (with_loop l frame))
+  form_range_ends a e x l s seq frame out h p sd da de fs pl = λ c st w high le k.
+        let pa = finish p (shape l a) in let pe = finish pa (shape l e) in
+        tree_then seq frame out (h + 0) p pa (pe + 1) l a (da out (h + 0) p pl.0) c st [] st w (λ u. then (run_it l frame e) (λ v. make_range (with_loop l frame) s.line x u v)) high (omega arith) refl le
+        (λ u z b1 k1. tree_then seq frame out (h + 1) pa pe (pe + 1) l e (de out (h + 1) pa pl.1.0) c (u ∷ st) (u ∷ []) st z (λ v. make_range (with_loop l frame) s.line x u v) high (omega arith) refl b1
+        (λ v z1 b2 k2. answered seq frame c pe (pe + 1) (v ∷ (u ∷ st)) st (v ∷ (u ∷ [])) z1 out (own l s) (NewRange (table.open_end x)) (make_range frame (own l s) x u v z1) (make_range (with_loop l frame) s.line x u v z1) pl.1.1.0 pl.1.1.1 (range_flag x seq frame pe v u st z1 (own l s)) refl
+        (ap (λ f. f z1) (range_same (with_loop l frame) frame s.line (own l s) refl (own_lines l frame sd.of_first s.line) x u v)) k2) k1) k
+
+  form_assign_ends : (t : Tree) (g : Goal) (l : Where) (s : SourcePosition) (seq : Routine) (frame : Frame) (out : List CatchRow) (h p : ℕ) → StandsIn l frame → T l seq frame t → FindsForm seqs bodies l (assign t g) → Placed seq.body.code seq.body.rows out h p (form_shape l (assign t g) s)
+      → D l seq frame out h p (finish p (form_shape l (assign t g) s)) (run_form files top b (assign t g) s (with_loop l frame))
+  form_assign_ends t g l s seq frame out h p sd dt fs pl = λ c st w high le k.
+        let p1 = finish p (shape l t) in
+        tree_then seq frame out (h + 0) p p1 (p1 + 1 + 1) l t (dt out (h + 0) p pl.0) c st [] st w (set_goal (with_loop l frame) s.line g) high (omega arith) refl le
+        (λ v z b1 a. on seq frame c p1 (v ∷ st) z (own l s) Dup (p1 + 1) (v ∷ (v ∷ st)) z pl.1.0 refl
+        (dropped seq frame c (p1 + 1) (p1 + 1 + 1) (p1 + 1 + 1) (v ∷ (v ∷ st)) (v ∷ st) st (v ∷ (v ∷ [])) z out (own l s) (table.set_goal l g) (set_goal frame (own l s) g v z) (λ u. Done v) pl.1.2.0 pl.1.2.1
+        (goal_acts g l seq frame (p1 + 1) (own l s) v (v ∷ st) z fs.1 b1) refl (λ u z1 k1. k1)
+        (subst (λ o. A seq frame c (p1 + 1 + 1) st out o) (ap (λ f. f z) (goal_same (with_loop l frame) frame s.line (own l s) refl (own_lines l frame sd.of_first s.line) g v) ∙ set_value frame (own l s) g v z) a))) k
+
+  form_assign_attribute_ends : (a : Tree) (t : Tree) (m : Bytes) (l : Where) (s : SourcePosition) (seq : Routine) (frame : Frame) (out : List CatchRow) (h p : ℕ) → StandsIn l frame → T l seq frame a → T l seq frame t → FindsForm seqs bodies l (assign_attribute a t m) → Placed seq.body.code seq.body.rows out h p (form_shape l (assign_attribute a t m) s)
+      → D l seq frame out h p (finish p (form_shape l (assign_attribute a t m) s)) (run_form files top b (assign_attribute a t m) s (with_loop l frame))
+  form_assign_attribute_ends a t m l s seq frame out h p sd da dt fs pl = λ c st w high le k.
+        let pa = finish (p + 1) (shape l a) in let pt = finish pa (shape l t) in
+        on seq frame c p st w (start l s) PutNil (p + 1) (nil ∷ st) w pl.0 refl
+        (tree_then seq frame out (h + 1) (p + 1) pa (pt + 1 + 1 + 1) l a (da out (h + 1) (p + 1) pl.2.0) c (nil ∷ st) (nil ∷ []) st w
+        (λ o. then (run_it l frame t) (λ v. set_by_send files top b (with_loop l frame) s.line o m (v ∷ []) v)) high (omega arith) refl le
+        (λ o w1 b1 k1. tree_then seq frame out (h + 2) pa pt (pt + 1 + 1 + 1) l t (dt out (h + 2) pa pl.2.1.0) c (o ∷ (nil ∷ st)) (o ∷ (nil ∷ [])) st w1
+        (λ v. set_by_send files top b (with_loop l frame) s.line o m (v ∷ []) v) high (omega arith) refl b1
+        (λ v w2 b2 k2. set_ends l seq frame out h pt (start l s) 2 s.line m 1 (self_flag a) (v ∷ []) o v (v ∷ (o ∷ (nil ∷ st))) st w2 c (pt + 1 + 1 + 1) done sd.of_first (self_bit a) refl pl.2.1.1 refl (λ z r. r) k2) k1) k)
+
+  form_assign_index_ends : (a : Tree) (i : Tree) (t : Tree) (l : Where) (s : SourcePosition) (seq : Routine) (frame : Frame) (out : List CatchRow) (h p : ℕ) → StandsIn l frame → T l seq frame a → T l seq frame i → T l seq frame t → FindsForm seqs bodies l (assign_index a i t) → Placed seq.body.code seq.body.rows out h p (form_shape l (assign_index a i t) s)
+      → D l seq frame out h p (finish p (form_shape l (assign_index a i t) s)) (run_form files top b (assign_index a i t) s (with_loop l frame))
+  form_assign_index_ends a i t l s seq frame out h p sd da di dt fs pl = λ c st w high le k.
+        let pa = finish (p + 1) (shape l a) in let pi = finish pa (shape l i) in let pt = finish pi (shape l t) in let set = codes "[]=" in
+        on seq frame c p st w (start l s) PutNil (p + 1) (nil ∷ st) w pl.0 refl
+        (tree_then seq frame out (h + 1) (p + 1) pa (pt + 1 + 1 + 1) l a (da out (h + 1) (p + 1) pl.2.0) c (nil ∷ st) (nil ∷ []) st w
+        (λ o. then (run_it l frame i) (λ j. then (run_it l frame t) (λ v. set_by_send files top b (with_loop l frame) s.line o set (j ∷ (v ∷ [])) v))) high (omega arith) refl le
+        (λ o w1 b1 k1. tree_then seq frame out (h + 2) pa pi (pt + 1 + 1 + 1) l i (di out (h + 2) pa pl.2.1.0) c (o ∷ (nil ∷ st)) (o ∷ (nil ∷ [])) st w1
+        (λ j. then (run_it l frame t) (λ v. set_by_send files top b (with_loop l frame) s.line o set (j ∷ (v ∷ [])) v)) high (omega arith) refl b1
+        (λ j w2 b2 k2. tree_then seq frame out (h + 3) pi pt (pt + 1 + 1 + 1) l t (dt out (h + 3) pi pl.2.1.1.0) c (j ∷ (o ∷ (nil ∷ st))) (j ∷ (o ∷ (nil ∷ []))) st w2
+        (λ v. set_by_send files top b (with_loop l frame) s.line o set (j ∷ (v ∷ [])) v) high (omega arith) refl b2
+        (λ v w3 b3 k3. set_ends l seq frame out h pt (start l s) 3 s.line set 2 (self_flag a) (j ∷ (v ∷ [])) o v (v ∷ (j ∷ (o ∷ (nil ∷ st)))) st w3 c (pt + 1 + 1 + 1) done sd.of_first (self_bit a) refl pl.2.1.1.1 refl (λ z r. r) k3) k2) k1) k)
+
+  form_operate_attribute_ends : (a : Tree) (x : Bytes) (t : Tree) (f : Bytes) (m : Bytes) (n : ℕ) (l : Where) (s : SourcePosition) (seq : Routine) (frame : Frame) (out : List CatchRow) (h p : ℕ) → StandsIn l frame → T l seq frame a → T l seq frame t → FindsForm seqs bodies l (operate_attribute a x t f m n) → Placed seq.body.code seq.body.rows out h p (form_shape l (operate_attribute a x t f m n) s)
+      → D l seq frame out h p (finish p (form_shape l (operate_attribute a x t f m n) s)) (run_form files top b (operate_attribute a x t f m n) s (with_loop l frame))
+  form_operate_attribute_ends a x t f m n l s seq frame out h p sd da dt fs pl = λ c st w high le k.
+        let pa = finish (p + 1) (shape l a) in let pv = finish (pa + 1 + 1) (shape l t) in let fin = pv + 1 + 1 + 1 + 1 in
+        on seq frame c p st w (start l s) PutNil (p + 1) (nil ∷ st) w pl.0 refl
+        (tree_then seq frame out (h + 1) (p + 1) pa fin l a (da out (h + 1) (p + 1) pl.2.0) c (nil ∷ st) (nil ∷ []) st w
+        (λ o. then (call_method files b (with_loop l frame) s.line o x [] no_block false) (λ u. then (run_it l frame t) (λ v. then (call_method files b (with_loop l frame) n u f (v ∷ []) no_block false) (λ r. set_by_send files top b (with_loop l frame) s.line o m (r ∷ []) r)))) high (omega arith) refl le
+        (λ o w1 b1 k1. on seq frame c pa (o ∷ (nil ∷ st)) w1 (start l s) Dup (pa + 1) (o ∷ (o ∷ (nil ∷ st))) w1 pl.2.1.0 refl
+        (send_then l seq frame out (pa + 1) fin s.line x 0 (self_flag a) [] o (o ∷ (nil ∷ st)) (o ∷ (nil ∷ [])) st w1 c (λ u. then (run_it l frame t) (λ v. then (call_method files b (with_loop l frame) n u f (v ∷ []) no_block false) (λ r. set_by_send files top b (with_loop l frame) s.line o m (r ∷ []) r))) sd.of_first (self_bit a) refl pl.2.1.2.0 pl.2.1.2.1 refl b1
+        (λ u w2 b2 k2. operate_ends l seq frame out h (pa + 1 + 1) (start l s) 2 s.line n f m 1 (self_flag a) t (λ r. r ∷ []) o (o ∷ (nil ∷ st)) (o ∷ (nil ∷ [])) st u w2 c sd.of_first (self_bit a) (λ v. refl) pl.2.1.2.2 (omega (arith, high.tall)) refl high b2 (λ q v z. refl) (dt out (h + 3) (pa + 1 + 1) pl.2.1.2.2.0) k2) k1)) k)
+
+  form_or_attribute_ends : (a : Tree) (x : Bytes) (t : Tree) (m : Bytes) (l : Where) (s : SourcePosition) (seq : Routine) (frame : Frame) (out : List CatchRow) (h p : ℕ) → StandsIn l frame → T l seq frame a → T l seq frame t → FindsForm seqs bodies l (or_attribute a x t m) → Placed seq.body.code seq.body.rows out h p (form_shape l (or_attribute a x t m) s)
+      → D l seq frame out h p (finish p (form_shape l (or_attribute a x t m) s)) (run_form files top b (or_attribute a x t m) s (with_loop l frame))
+  form_or_attribute_ends a x t m l s seq frame out h p sd da dt fs pl = λ c st w high le k.
+        let pa = finish (p + 1) (shape l a) in let pv = finish (pa + 1 + 1 + 1 + 1 + 1) (shape l t) in let fin = pv + 1 + 1 + 1 + 1 + 1 + 1 in
+        on seq frame c p st w (start l s) PutNil (p + 1) (nil ∷ st) w pl.0 refl
+        (tree_then seq frame out (h + 1) (p + 1) pa fin l a (da out (h + 1) (p + 1) pl.2.0) c (nil ∷ st) (nil ∷ []) st w
+        (λ o. then (call_method files b (with_loop l frame) s.line o x [] no_block false) (λ u. choose (is_true u) (Done u) (then (run_it l frame t) (λ v. set_by_send files top b (with_loop l frame) s.line o m (v ∷ []) v)))) high (omega arith) refl le
+        (λ o w1 b1 k1. on seq frame c pa (o ∷ (nil ∷ st)) w1 (start l s) Dup (pa + 1) (o ∷ (o ∷ (nil ∷ st))) w1 pl.2.1.0 refl
+        (send_then l seq frame out (pa + 1) fin s.line x 0 (self_flag a) [] o (o ∷ (nil ∷ st)) (o ∷ (nil ∷ [])) st w1 c (λ u. choose (is_true u) (Done u) (then (run_it l frame t) (λ v. set_by_send files top b (with_loop l frame) s.line o m (v ∷ []) v))) sd.of_first (self_bit a) refl pl.2.1.2.0 pl.2.1.2.1 refl b1
+        (λ u w2 b2 k2. or_ends (is_true u) l seq frame out h (pa + 1 + 1) (start l s) 2 s.line m 1 (self_flag a) t (λ v. v ∷ []) o (o ∷ (nil ∷ st)) (o ∷ (nil ∷ [])) st (u ∷ (o ∷ (u ∷ st))) u w2 c BranchIf (is_true u) sd.of_first (self_bit a) (λ v. refl) pl.2.1.2.2 (omega (arith, high.tall)) refl high b2 (λ q. refl) (λ q v z. refl) (λ q. refl) (λ q. refl) (dt out (h + 2) (pa + 1 + 1 + 1 + 1 + 1) pl.2.1.2.2.2.2.2.0) refl k2) k1)) k)
+
+  form_and_attribute_ends : (a : Tree) (x : Bytes) (t : Tree) (m : Bytes) (l : Where) (s : SourcePosition) (seq : Routine) (frame : Frame) (out : List CatchRow) (h p : ℕ) → StandsIn l frame → T l seq frame a → T l seq frame t → FindsForm seqs bodies l (and_attribute a x t m) → Placed seq.body.code seq.body.rows out h p (form_shape l (and_attribute a x t m) s)
+      → D l seq frame out h p (finish p (form_shape l (and_attribute a x t m) s)) (run_form files top b (and_attribute a x t m) s (with_loop l frame))
+  form_and_attribute_ends a x t m l s seq frame out h p sd da dt fs pl = λ c st w high le k.
+        let pa = finish (p + 1) (shape l a) in let pv = finish (pa + 1 + 1 + 1 + 1 + 1) (shape l t) in let fin = pv + 1 + 1 + 1 + 1 + 1 + 1 in
+        on seq frame c p st w (start l s) PutNil (p + 1) (nil ∷ st) w pl.0 refl
+        (tree_then seq frame out (h + 1) (p + 1) pa fin l a (da out (h + 1) (p + 1) pl.2.0) c (nil ∷ st) (nil ∷ []) st w
+        (λ o. then (call_method files b (with_loop l frame) s.line o x [] no_block false) (λ u. choose (is_true u) (then (run_it l frame t) (λ v. set_by_send files top b (with_loop l frame) s.line o m (v ∷ []) v)) (Done u))) high (omega arith) refl le
+        (λ o w1 b1 k1. on seq frame c pa (o ∷ (nil ∷ st)) w1 (start l s) Dup (pa + 1) (o ∷ (o ∷ (nil ∷ st))) w1 pl.2.1.0 refl
+        (send_then l seq frame out (pa + 1) fin s.line x 0 (self_flag a) [] o (o ∷ (nil ∷ st)) (o ∷ (nil ∷ [])) st w1 c (λ u. choose (is_true u) (then (run_it l frame t) (λ v. set_by_send files top b (with_loop l frame) s.line o m (v ∷ []) v)) (Done u)) sd.of_first (self_bit a) refl pl.2.1.2.0 pl.2.1.2.1 refl b1
+        (λ u w2 b2 k2. or_ends (not (is_true u)) l seq frame out h (pa + 1 + 1) (start l s) 2 s.line m 1 (self_flag a) t (λ v. v ∷ []) o (o ∷ (nil ∷ st)) (o ∷ (nil ∷ [])) st (u ∷ (o ∷ (u ∷ st))) u w2 c BranchUnless (not (is_true u)) sd.of_first (self_bit a) (λ v. refl) pl.2.1.2.2 (omega (arith, high.tall)) refl high b2 (λ q. refl) (λ q v z. refl) (λ q. refl) (λ q. refl) (dt out (h + 2) (pa + 1 + 1 + 1 + 1 + 1) pl.2.1.2.2.2.2.2.0) refl (subst (λ y. A seq frame c fin st out y) (choose_not (is_true u) (then (run_it l frame t) (λ v. set_by_send files top b (with_loop l frame) s.line o m (v ∷ []) v)) (Done u) w2) k2)) k1)) k)
+
+  form_operate_index_ends : (a : Tree) (i : Tree) (t : Tree) (f : Bytes) (n : ℕ) (l : Where) (s : SourcePosition) (seq : Routine) (frame : Frame) (out : List CatchRow) (h p : ℕ) → StandsIn l frame → T l seq frame a → T l seq frame i → T l seq frame t → FindsForm seqs bodies l (operate_index a i t f n) → Placed seq.body.code seq.body.rows out h p (form_shape l (operate_index a i t f n) s)
+      → D l seq frame out h p (finish p (form_shape l (operate_index a i t f n) s)) (run_form files top b (operate_index a i t f n) s (with_loop l frame))
+  form_operate_index_ends a i t f n l s seq frame out h p sd da di dt fs pl = λ c st w high le k.
+        let pa = finish (p + 1) (shape l a) in let pi = finish pa (shape l i) in let pr = pi + 1 + 1 + 1 in let pv = finish (pr) (shape l t) in let fin = pv + 1 + 1 + 1 + 1 in let set = codes "[]=" in
+        on seq frame c p st w (start l s) PutNil (p + 1) (nil ∷ st) w pl.0 refl
+        (tree_then seq frame out (h + 1) (p + 1) pa fin l a (da out (h + 1) (p + 1) pl.2.0) c (nil ∷ st) (nil ∷ []) st w
+        (λ o. then (run_it l frame i) (λ j. then (call_method files b (with_loop l frame) s.line o (codes "[]") (j ∷ []) no_block false) (λ u. then (run_it l frame t) (λ v. then (call_method files b (with_loop l frame) n u f (v ∷ []) no_block false) (λ r. set_by_send files top b (with_loop l frame) s.line o set (j ∷ (r ∷ [])) r))))) high (omega arith) refl le
+        (λ o w1 b1 k1. tree_then seq frame out (h + 2) pa pi fin l i (di out (h + 2) pa pl.2.1.0) c (o ∷ (nil ∷ st)) (o ∷ (nil ∷ [])) st w1
+        (λ j. then (call_method files b (with_loop l frame) s.line o (codes "[]") (j ∷ []) no_block false) (λ u. then (run_it l frame t) (λ v. then (call_method files b (with_loop l frame) n u f (v ∷ []) no_block false) (λ r. set_by_send files top b (with_loop l frame) s.line o set (j ∷ (r ∷ [])) r)))) high (omega arith) refl b1
+        (λ j w3 b3 k3. on seq frame c pi (j ∷ (o ∷ (nil ∷ st))) w3 (start l s) (TopN 1) (pi + 1) (o ∷ (j ∷ (o ∷ (nil ∷ st)))) w3 pl.2.1.1.0 refl
+        (on seq frame c (pi + 1) (o ∷ (j ∷ (o ∷ (nil ∷ st)))) w3 (start l s) (TopN 1) (pi + 1 + 1) (j ∷ (o ∷ (j ∷ (o ∷ (nil ∷ st))))) w3 pl.2.1.1.2.0 refl
+        (send_then l seq frame out (pi + 1 + 1) fin s.line (codes "[]") 1 (self_flag a) (j ∷ []) o (j ∷ (o ∷ (nil ∷ st))) (j ∷ (o ∷ (nil ∷ []))) st w3 c (λ u. then (run_it l frame t) (λ v. then (call_method files b (with_loop l frame) n u f (v ∷ []) no_block false) (λ r. set_by_send files top b (with_loop l frame) s.line o set (j ∷ (r ∷ [])) r))) sd.of_first (self_bit a) refl pl.2.1.1.2.2.0 pl.2.1.1.2.2.1 refl b3
+        (λ u w2 b2 k2. operate_ends l seq frame out h pr (start l s) 3 s.line n f set 2 (self_flag a) t (λ r. j ∷ (r ∷ [])) o (j ∷ (o ∷ (nil ∷ st))) (j ∷ (o ∷ (nil ∷ []))) st u w2 c sd.of_first (self_bit a) (λ v. refl) pl.2.1.1.2.2.2 (omega (arith, high.tall)) refl high b2 (λ q v z. refl) (dt out (h + 4) pr pl.2.1.1.2.2.2.0) k2) k3))) k1) k)
+
+  form_or_index_ends : (a : Tree) (i : Tree) (t : Tree) (l : Where) (s : SourcePosition) (seq : Routine) (frame : Frame) (out : List CatchRow) (h p : ℕ) → StandsIn l frame → T l seq frame a → T l seq frame i → T l seq frame t → FindsForm seqs bodies l (or_index a i t) → Placed seq.body.code seq.body.rows out h p (form_shape l (or_index a i t) s)
+      → D l seq frame out h p (finish p (form_shape l (or_index a i t) s)) (run_form files top b (or_index a i t) s (with_loop l frame))
+  form_or_index_ends a i t l s seq frame out h p sd da di dt fs pl = λ c st w high le k.
+        let pa = finish (p + 1) (shape l a) in let pi = finish pa (shape l i) in let pr = pi + 1 + 1 + 1 in let pv = finish (pr + 1 + 1 + 1) (shape l t) in let fin = pv + 1 + 1 + 1 + 1 + 1 + 1 in let set = codes "[]=" in
+        on seq frame c p st w (start l s) PutNil (p + 1) (nil ∷ st) w pl.0 refl
+        (tree_then seq frame out (h + 1) (p + 1) pa fin l a (da out (h + 1) (p + 1) pl.2.0) c (nil ∷ st) (nil ∷ []) st w
+        (λ o. then (run_it l frame i) (λ j. then (call_method files b (with_loop l frame) s.line o (codes "[]") (j ∷ []) no_block false) (λ u. choose (is_true u) (Done u) (then (run_it l frame t) (λ v. set_by_send files top b (with_loop l frame) s.line o set (j ∷ (v ∷ [])) v))))) high (omega arith) refl le
+        (λ o w1 b1 k1. tree_then seq frame out (h + 2) pa pi fin l i (di out (h + 2) pa pl.2.1.0) c (o ∷ (nil ∷ st)) (o ∷ (nil ∷ [])) st w1
+        (λ j. then (call_method files b (with_loop l frame) s.line o (codes "[]") (j ∷ []) no_block false) (λ u. choose (is_true u) (Done u) (then (run_it l frame t) (λ v. set_by_send files top b (with_loop l frame) s.line o set (j ∷ (v ∷ [])) v)))) high (omega arith) refl b1
+        (λ j w3 b3 k3. on seq frame c pi (j ∷ (o ∷ (nil ∷ st))) w3 (start l s) (TopN 1) (pi + 1) (o ∷ (j ∷ (o ∷ (nil ∷ st)))) w3 pl.2.1.1.0 refl
+        (on seq frame c (pi + 1) (o ∷ (j ∷ (o ∷ (nil ∷ st)))) w3 (start l s) (TopN 1) (pi + 1 + 1) (j ∷ (o ∷ (j ∷ (o ∷ (nil ∷ st))))) w3 pl.2.1.1.2.0 refl
+        (send_then l seq frame out (pi + 1 + 1) fin s.line (codes "[]") 1 (self_flag a) (j ∷ []) o (j ∷ (o ∷ (nil ∷ st))) (j ∷ (o ∷ (nil ∷ []))) st w3 c (λ u. choose (is_true u) (Done u) (then (run_it l frame t) (λ v. set_by_send files top b (with_loop l frame) s.line o set (j ∷ (v ∷ [])) v))) sd.of_first (self_bit a) refl pl.2.1.1.2.2.0 pl.2.1.1.2.2.1 refl b3
+        (λ u w2 b2 k2. or_ends (is_true u) l seq frame out h pr (start l s) 3 s.line set 2 (self_flag a) t (λ v. j ∷ (v ∷ [])) o (j ∷ (o ∷ (nil ∷ st))) (j ∷ (o ∷ (nil ∷ []))) st (u ∷ (j ∷ (o ∷ (u ∷ st)))) u w2 c BranchIf (is_true u) sd.of_first (self_bit a) (λ v. refl) pl.2.1.1.2.2.2 (omega (arith, high.tall)) refl high b2 (λ q. refl) (λ q v z. refl) (λ q. refl) (λ q. refl) (dt out (h + 3) (pr + 1 + 1 + 1) pl.2.1.1.2.2.2.2.2.2.0) refl k2) k3))) k1) k)
+
+  form_and_index_ends : (a : Tree) (i : Tree) (t : Tree) (l : Where) (s : SourcePosition) (seq : Routine) (frame : Frame) (out : List CatchRow) (h p : ℕ) → StandsIn l frame → T l seq frame a → T l seq frame i → T l seq frame t → FindsForm seqs bodies l (and_index a i t) → Placed seq.body.code seq.body.rows out h p (form_shape l (and_index a i t) s)
+      → D l seq frame out h p (finish p (form_shape l (and_index a i t) s)) (run_form files top b (and_index a i t) s (with_loop l frame))
+  form_and_index_ends a i t l s seq frame out h p sd da di dt fs pl = λ c st w high le k.
+        let pa = finish (p + 1) (shape l a) in let pi = finish pa (shape l i) in let pr = pi + 1 + 1 + 1 in let pv = finish (pr + 1 + 1 + 1) (shape l t) in let fin = pv + 1 + 1 + 1 + 1 + 1 + 1 in let set = codes "[]=" in
+        on seq frame c p st w (start l s) PutNil (p + 1) (nil ∷ st) w pl.0 refl
+        (tree_then seq frame out (h + 1) (p + 1) pa fin l a (da out (h + 1) (p + 1) pl.2.0) c (nil ∷ st) (nil ∷ []) st w
+        (λ o. then (run_it l frame i) (λ j. then (call_method files b (with_loop l frame) s.line o (codes "[]") (j ∷ []) no_block false) (λ u. choose (is_true u) (then (run_it l frame t) (λ v. set_by_send files top b (with_loop l frame) s.line o set (j ∷ (v ∷ [])) v)) (Done u)))) high (omega arith) refl le
+        (λ o w1 b1 k1. tree_then seq frame out (h + 2) pa pi fin l i (di out (h + 2) pa pl.2.1.0) c (o ∷ (nil ∷ st)) (o ∷ (nil ∷ [])) st w1
+        (λ j. then (call_method files b (with_loop l frame) s.line o (codes "[]") (j ∷ []) no_block false) (λ u. choose (is_true u) (then (run_it l frame t) (λ v. set_by_send files top b (with_loop l frame) s.line o set (j ∷ (v ∷ [])) v)) (Done u))) high (omega arith) refl b1
+        (λ j w3 b3 k3. on seq frame c pi (j ∷ (o ∷ (nil ∷ st))) w3 (start l s) (TopN 1) (pi + 1) (o ∷ (j ∷ (o ∷ (nil ∷ st)))) w3 pl.2.1.1.0 refl
+        (on seq frame c (pi + 1) (o ∷ (j ∷ (o ∷ (nil ∷ st)))) w3 (start l s) (TopN 1) (pi + 1 + 1) (j ∷ (o ∷ (j ∷ (o ∷ (nil ∷ st))))) w3 pl.2.1.1.2.0 refl
+        (send_then l seq frame out (pi + 1 + 1) fin s.line (codes "[]") 1 (self_flag a) (j ∷ []) o (j ∷ (o ∷ (nil ∷ st))) (j ∷ (o ∷ (nil ∷ []))) st w3 c (λ u. choose (is_true u) (then (run_it l frame t) (λ v. set_by_send files top b (with_loop l frame) s.line o set (j ∷ (v ∷ [])) v)) (Done u)) sd.of_first (self_bit a) refl pl.2.1.1.2.2.0 pl.2.1.1.2.2.1 refl b3
+        (λ u w2 b2 k2. or_ends (not (is_true u)) l seq frame out h pr (start l s) 3 s.line set 2 (self_flag a) t (λ v. j ∷ (v ∷ [])) o (j ∷ (o ∷ (nil ∷ st))) (j ∷ (o ∷ (nil ∷ []))) st (u ∷ (j ∷ (o ∷ (u ∷ st)))) u w2 c BranchUnless (not (is_true u)) sd.of_first (self_bit a) (λ v. refl) pl.2.1.1.2.2.2 (omega (arith, high.tall)) refl high b2 (λ q. refl) (λ q v z. refl) (λ q. refl) (λ q. refl) (dt out (h + 3) (pr + 1 + 1 + 1) pl.2.1.1.2.2.2.2.2.2.0) refl (subst (λ y. A seq frame c fin st out y) (choose_not (is_true u) (then (run_it l frame t) (λ v. set_by_send files top b (with_loop l frame) s.line o set (j ∷ (v ∷ [])) v)) (Done u) w2) k2)) k3))) k1) k)
+
+  form_both_ends : (a : Tree) (e : Tree) (l : Where) (s : SourcePosition) (seq : Routine) (frame : Frame) (out : List CatchRow) (h p : ℕ) → StandsIn l frame → T l seq frame a → T l seq frame e → FindsForm seqs bodies l (both a e) → Placed seq.body.code seq.body.rows out h p (form_shape l (both a e) s)
+      → D l seq frame out h p (finish p (form_shape l (both a e) s)) (run_form files top b (both a e) s (with_loop l frame))
+  form_both_ends a e l s seq frame out h p sd da de fs pl = λ c st w high le k.
+        let p1 = finish p (shape l a) in let n = suc (size (shape l e)) in let fin = finish (p1 + 1 + 1 + 1) (shape l e) in
+        tree_then seq frame out (h + 0) p p1 fin l a (da out (h + 0) p pl.0) c st [] st w (λ v. choose (is_true v) (run_it l frame e) (Done v)) high (omega arith) refl le
+        (λ v z b1 k1. on seq frame c p1 (v ∷ st) z (own l s) Dup (p1 + 1) (v ∷ (v ∷ st)) z pl.1.0 refl
+        (short_ends l seq frame out (h + 0) (p1 + 1) n (own l s) fin (BranchUnless (p1 + 1 + 1 + n)) (run_it l frame e) c st v z (not (is_true v)) pl.1.2.0 refl (let g = finish_size (shape l e) (p1 + 1 + 1 + 1) in omega arith) pl.1.2.2.0
+        (de out (h + 0) (p1 + 1 + 1 + 1) pl.1.2.2.2.0) (plus_zero _ _ _ _ high) b1 (not (is_true v)) refl (subst (λ y. A seq frame c fin st out y) (choose_not (is_true v) (run_it l frame e) (Done v) z) k1))) k
+
+  form_either_ends : (a : Tree) (e : Tree) (l : Where) (s : SourcePosition) (seq : Routine) (frame : Frame) (out : List CatchRow) (h p : ℕ) → StandsIn l frame → T l seq frame a → T l seq frame e → FindsForm seqs bodies l (either a e) → Placed seq.body.code seq.body.rows out h p (form_shape l (either a e) s)
+      → D l seq frame out h p (finish p (form_shape l (either a e) s)) (run_form files top b (either a e) s (with_loop l frame))
+  form_either_ends a e l s seq frame out h p sd da de fs pl = λ c st w high le k.
+        let p1 = finish p (shape l a) in let n = suc (size (shape l e)) in let fin = finish (p1 + 1 + 1 + 1) (shape l e) in
+        tree_then seq frame out (h + 0) p p1 fin l a (da out (h + 0) p pl.0) c st [] st w (λ v. choose (is_true v) (Done v) (run_it l frame e)) high (omega arith) refl le
+        (λ v z b1 k1. on seq frame c p1 (v ∷ st) z (own l s) Dup (p1 + 1) (v ∷ (v ∷ st)) z pl.1.0 refl
+        (short_ends l seq frame out (h + 0) (p1 + 1) n (own l s) fin (BranchIf (p1 + 1 + 1 + n)) (run_it l frame e) c st v z (is_true v) pl.1.2.0 refl (let g = finish_size (shape l e) (p1 + 1 + 1 + 1) in omega arith) pl.1.2.2.0
+        (de out (h + 0) (p1 + 1 + 1 + 1) pl.1.2.2.2.0) (plus_zero _ _ _ _ high) b1 (is_true v) refl k1)) k
+
+  form_negated_ends : (a : Tree) (l : Where) (s : SourcePosition) (seq : Routine) (frame : Frame) (out : List CatchRow) (h p : ℕ) → StandsIn l frame → T l seq frame a → FindsForm seqs bodies l (negated a) → Placed seq.body.code seq.body.rows out h p (form_shape l (negated a) s)
+      → D l seq frame out h p (finish p (form_shape l (negated a) s)) (run_form files top b (negated a) s (with_loop l frame))
+  form_negated_ends a l s seq frame out h p sd da fs pl = λ c st w high le k.
+        let p1 = finish p (shape l a) in
+        tree_then seq frame out (h + 0) p p1 (p1 + 1) l a (da out (h + 0) p pl.0) c st [] st w (λ v. call_method files b (with_loop l frame) s.line v (codes "!") [] no_block false) high (omega arith) refl le
+        (λ v z b1 k1. plain_ends l seq frame out p1 s.line (codes "!") 0 (self_flag a) [] v st z c sd.of_first (self_bit a) refl pl.1.0 pl.1.1 k1) k
+
+  form_while_loop_first_ends : (a : Tree) (e : Tree) (u : Bool) (l : Where) (s : SourcePosition) (seq : Routine) (frame : Frame) (out : List CatchRow) (h p : ℕ) → StandsIn l frame → TL l seq frame a → T l seq frame e → FindsForm seqs bodies l (while_loop a e u true) → Placed seq.body.code seq.body.rows out h p (form_shape l (while_loop a e u true) s)
+      → D l seq frame out h p (finish p (form_shape l (while_loop a e u true) s)) (run_form files top b (while_loop a e u true) s (with_loop l frame))
+  form_while_loop_first_ends a e u l s seq frame out h p sd da de fs pl = λ c st w high le k.
+        let pn = finish p (shape (looped l) a) in let pc = finish (pn + 1) (shape l e) in let n = size (shape (looped l) a) + 1 + size (shape l e) in
+        let g1 = finish_size (shape (looped l) a) p in let g2 = finish_size (shape l e) (pn + 1) in
+        da _ h p pl.0.0 c st w high le
+        (turn_ends files b seqs bodies top l.clause l.sight.scopes seq frame out h p pn pc (size (shape l e) + 3) (own l s) (own l s) (own l s) (pc - n) u (run_it l frame e) (run_it (looped l) frame a) pl.1.0 pl.1.1 pl.1.2.1.0 pl.1.2.1.1 (omega arith) (omega arith) pl.1.2.1.2.0 (omega arith)
+        (known.trees l.sight.scopes frame (with_loop l frame) refl e) (known.trees l.sight.scopes frame (with_loop (looped l) frame) refl a) (da _ h p pl.0.0) (λ c1 st1 w1 high1. de out (h + 0) (pn + 1) pl.1.2.0 c1 st1 w1 (plus_zero _ _ _ _ high1)) c st high
+        top (loop top u (run_it l frame e) (run_it (looped l) frame a))
+        (λ w1 b1 k1. turns_run files b seqs bodies top l.clause l.sight.scopes seq frame out h p pn pc (size (shape l e) + 3) (own l s) (own l s) (own l s) (pc - n) u (run_it l frame e) (run_it (looped l) frame a) pl.1.0 pl.1.1 pl.1.2.1.0 pl.1.2.1.1 (omega arith) (omega arith) pl.1.2.1.2.0 (omega arith)
+        (known.trees l.sight.scopes frame (with_loop l frame) refl e) (known.trees l.sight.scopes frame (with_loop (looped l) frame) refl a) (da _ h p pl.0.0) (λ c1 st1 w2 high1. de out (h + 0) (pn + 1) pl.1.2.0 c1 st1 w2 (plus_zero _ _ _ _ high1)) c st high
+        top top w1 (omega arith) (omega arith) b1 k1)
+        (run_it (looped l) frame a w) (known.trees l.sight.scopes frame (with_loop (looped l) frame) refl a top w (omega arith) le) k)
+
+  form_while_loop_later_ends : (a : Tree) (e : Tree) (u : Bool) (l : Where) (s : SourcePosition) (seq : Routine) (frame : Frame) (out : List CatchRow) (h p : ℕ) → StandsIn l frame → TL l seq frame a → T l seq frame e → FindsForm seqs bodies l (while_loop a e u false) → Placed seq.body.code seq.body.rows out h p (form_shape l (while_loop a e u false) s)
+      → D l seq frame out h p (finish p (form_shape l (while_loop a e u false) s)) (run_form files top b (while_loop a e u false) s (with_loop l frame))
+  form_while_loop_later_ends a e u l s seq frame out h p sd da de fs pl = λ c st w high le k.
+        let pn = finish (p + 1) (shape (looped l) a) in let pc = finish (pn + 1) (shape l e) in let n = size (shape (looped l) a) + 1 + size (shape l e) in
+        let g1 = finish_size (shape (looped l) a) (p + 1) in let g2 = finish_size (shape l e) (pn + 1) in
+        jump_to seq frame c p (size (shape (looped l) a) + 1) (own l s) (pn + 1) st w pl.0 (omega arith)
+        (turns_run files b seqs bodies top l.clause l.sight.scopes seq frame out h (p + 1) pn pc (size (shape l e) + 3) (own l s) (own l s) (own l s) (pc - n) u (run_it l frame e) (run_it (looped l) frame a) pl.2.1.0 pl.2.1.1 pl.2.1.2.1.0 pl.2.1.2.1.1 (omega arith) (omega arith) pl.2.1.2.1.2.0 (omega arith)
+        (known.trees l.sight.scopes frame (with_loop l frame) refl e) (known.trees l.sight.scopes frame (with_loop (looped l) frame) refl a) (da _ h (p + 1) pl.2.0.0) (λ c1 st1 w2 high1. de out (h + 0) (pn + 1) pl.2.1.2.0 c1 st1 w2 (plus_zero _ _ _ _ high1)) c st high
+        top top w (omega arith) (omega arith) le k)
+
   mutual
     pub tree_does : (t : Tree) (l : Where) (seq : Routine) (frame : Frame) (out : List CatchRow) (h p : ℕ) → StandsIn l frame → Finds seqs bodies l t → Placed seq.body.code seq.body.rows out h p (shape l t) → D l seq frame out h p (finish p (shape l t)) (run_it l frame t)
     tree_does (at s f) l seq frame out h p sd fs pl = form_does f l s seq frame out h p sd fs pl
@@ -589,13 +847,11 @@ module _ (files : Files) (b : Tree → Frame → Run) (seqs : ℕ → Routine) (
         args_does ts l seq frame out h p 0 _ sd fs pl c st [] w (finish p (form_shape l (array ts ks) s)) [] (λ vs. reading (spread ks vs) (λ us. make_array us Done)) refl refl high le
         (λ vs q z pl1 e1 n1 b1 k1. answers files b seqs bodies seq frame c q (q + 1) (pushed vs st) st (pushed vs []) z out (reading (spread ks vs) (λ us. make_array us Done) z)
         (here files b seqs bodies seq frame c q (pushed vs st) z (own l s) (NewArray (count ts) ks) pl1.0 ∙ args_off vs st (count ts) _ (omega arith)) pl1.1 (pushed_over vs [] st) (subst (λ y. A seq frame c y st out (reading (spread ks vs) (λ us. make_array us Done) z)) (sym e1) k1)) k
-    form_does (hash ps) l s seq frame out h p sd fs pl = λ c st w high le k. ?
-    form_does (range a e x) l s seq frame out h p sd fs pl = λ c st w high le k.
-        let pa = finish p (shape l a) in let pe = finish pa (shape l e) in
-        tree_then seq frame out (h + 0) p pa (pe + 1) l a (tree_does a l seq frame out (h + 0) p sd fs.0 pl.0) c st [] st w (λ u. then (run_it l frame e) (λ v. make_range (with_loop l frame) s.line x u v)) high (omega arith) refl le
-        (λ u z b1 k1. tree_then seq frame out (h + 1) pa pe (pe + 1) l e (tree_does e l seq frame out (h + 1) pa sd fs.1 pl.1.0) c (u ∷ st) (u ∷ []) st z (λ v. make_range (with_loop l frame) s.line x u v) high (omega arith) refl b1
-        (λ v z1 b2 k2. answered seq frame c pe (pe + 1) (v ∷ (u ∷ st)) st (v ∷ (u ∷ [])) z1 out (own l s) (NewRange (table.open_end x)) (make_range frame (own l s) x u v z1) (make_range (with_loop l frame) s.line x u v z1) pl.1.1.0 pl.1.1.1 (range_flag x seq frame pe v u st z1 (own l s)) refl
-        (ap (λ f. f z1) (range_same (with_loop l frame) frame s.line (own l s) refl (own_lines l frame sd.of_first s.line) x u v)) k2) k1) k
+    form_does (hash ps) l s seq frame out h p sd fs pl = λ c st w high le k.
+        pairs_does ps l seq frame out h p 0 _ sd fs pl c st w (finish p (form_shape l (hash ps) s)) [] make_hash refl refl high le
+        (λ qs q z pl1 e1 n1 b1 k1. answered seq frame c q (q + 1) (pushed (flat qs) st) st (pushed (flat qs) []) z out (own l s) (NewHash (2 * count_pairs ps)) (make_hash (pairs_of (flat qs)) z) (make_hash qs z) pl1.0 pl1.1
+        (args_off (flat qs) st (2 * count_pairs ps) _ (omega (arith, flat_length qs))) (pushed_over (flat qs) [] st) (ap (λ y. make_hash y z) (sym (flat_pairs qs))) (subst (λ y. A seq frame c y st out (make_hash qs z)) (sym e1) k1)) k
+    form_does (range a e x) l s seq frame out h p sd fs pl = form_range_ends a e x l s seq frame out h p sd (λ o1 h1 p1 pl1. tree_does a l seq frame o1 h1 p1 sd fs.0 pl1) (λ o1 h1 p1 pl1. tree_does e l seq frame o1 h1 p1 sd fs.1 pl1) fs pl
     form_does (constant_path without true xs) l s seq frame out h p sd fs pl = λ c st w high le k.
         answered seq frame c p (p + 1) st st [] w out (own l s) (OptGetConstantPath 1 xs) (path_from frame (own l s) xs (object object_class) w) (path_from (with_loop l frame) s.line xs (object object_class) w) pl.0 pl.1 refl refl
         (ap (λ f. f w) (path_same (with_loop l frame) frame s.line (own l s) refl (own_lines l frame sd.of_first s.line) xs (object object_class))) k
@@ -607,89 +863,16 @@ module _ (files : Files) (b : Tree → Frame → Run) (seqs : ℕ → Routine) (
         tree_then seq frame out (h + 0) p p1 (p1 + 1) l t (tree_does t l seq frame out (h + 0) p sd fs pl.0) c st [] st w (path_from (with_loop l frame) s.line xs) high (omega arith) refl le
         (λ v z b1 k1. answered seq frame c p1 (p1 + 1) (v ∷ st) st (v ∷ []) z out (own l s) (OptGetConstantPath 2 xs) (path_from frame (own l s) xs v z) (path_from (with_loop l frame) s.line xs v z) pl.1.0 pl.1.1 refl refl
         (ap (λ f. f z) (path_same (with_loop l frame) frame s.line (own l s) refl (own_lines l frame sd.of_first s.line) xs v)) k1) k
-    form_does (assign t g) l s seq frame out h p sd fs pl = λ c st w high le k.
-        let p1 = finish p (shape l t) in
-        tree_then seq frame out (h + 0) p p1 (p1 + 1 + 1) l t (tree_does t l seq frame out (h + 0) p sd fs.0 pl.0) c st [] st w (set_goal (with_loop l frame) s.line g) high (omega arith) refl le
-        (λ v z b1 a. on seq frame c p1 (v ∷ st) z (own l s) Dup (p1 + 1) (v ∷ (v ∷ st)) z pl.1.0 refl
-        (dropped seq frame c (p1 + 1) (p1 + 1 + 1) (p1 + 1 + 1) (v ∷ (v ∷ st)) (v ∷ st) st (v ∷ (v ∷ [])) z out (own l s) (table.set_goal l g) (set_goal frame (own l s) g v z) (λ u. Done v) pl.1.2.0 pl.1.2.1
-        (goal_acts g l seq frame (p1 + 1) (own l s) v (v ∷ st) z fs.1 b1) refl (λ u z1 k1. k1)
-        (subst (λ o. A seq frame c (p1 + 1 + 1) st out o) (ap (λ f. f z) (goal_same (with_loop l frame) frame s.line (own l s) refl (own_lines l frame sd.of_first s.line) g v) ∙ set_value frame (own l s) g v z) a))) k
+    form_does (assign t g) l s seq frame out h p sd fs pl = form_assign_ends t g l s seq frame out h p sd (λ o1 h1 p1 pl1. tree_does t l seq frame o1 h1 p1 sd fs.0 pl1) fs pl
     form_does (assign_all ts gs) l s seq frame out h p sd fs pl = λ c st w high le k. ?
-    form_does (assign_attribute a t m) l s seq frame out h p sd fs pl = λ c st w high le k.
-        let pa = finish (p + 1) (shape l a) in let pt = finish pa (shape l t) in
-        on seq frame c p st w (start l s) PutNil (p + 1) (nil ∷ st) w pl.0 refl
-        (tree_then seq frame out (h + 1) (p + 1) pa (pt + 1 + 1 + 1) l a (tree_does a l seq frame out (h + 1) (p + 1) sd fs.0 pl.2.0) c (nil ∷ st) (nil ∷ []) st w
-        (λ o. then (run_it l frame t) (λ v. set_by_send files top b (with_loop l frame) s.line o m (v ∷ []) v)) high (omega arith) refl le
-        (λ o w1 b1 k1. tree_then seq frame out (h + 2) pa pt (pt + 1 + 1 + 1) l t (tree_does t l seq frame out (h + 2) pa sd fs.1 pl.2.1.0) c (o ∷ (nil ∷ st)) (o ∷ (nil ∷ [])) st w1
-        (λ v. set_by_send files top b (with_loop l frame) s.line o m (v ∷ []) v) high (omega arith) refl b1
-        (λ v w2 b2 k2. set_ends l seq frame out h pt (start l s) 2 s.line m 1 (self_flag a) (v ∷ []) o v (v ∷ (o ∷ (nil ∷ st))) st w2 c (pt + 1 + 1 + 1) done sd.of_first (self_bit a) refl pl.2.1.1 refl (λ z r. r) k2) k1) k)
-    form_does (assign_index a i t) l s seq frame out h p sd fs pl = λ c st w high le k.
-        let pa = finish (p + 1) (shape l a) in let pi = finish pa (shape l i) in let pt = finish pi (shape l t) in let set = codes "[]=" in
-        on seq frame c p st w (start l s) PutNil (p + 1) (nil ∷ st) w pl.0 refl
-        (tree_then seq frame out (h + 1) (p + 1) pa (pt + 1 + 1 + 1) l a (tree_does a l seq frame out (h + 1) (p + 1) sd fs.0 pl.2.0) c (nil ∷ st) (nil ∷ []) st w
-        (λ o. then (run_it l frame i) (λ j. then (run_it l frame t) (λ v. set_by_send files top b (with_loop l frame) s.line o set (j ∷ (v ∷ [])) v))) high (omega arith) refl le
-        (λ o w1 b1 k1. tree_then seq frame out (h + 2) pa pi (pt + 1 + 1 + 1) l i (tree_does i l seq frame out (h + 2) pa sd fs.1 pl.2.1.0) c (o ∷ (nil ∷ st)) (o ∷ (nil ∷ [])) st w1
-        (λ j. then (run_it l frame t) (λ v. set_by_send files top b (with_loop l frame) s.line o set (j ∷ (v ∷ [])) v)) high (omega arith) refl b1
-        (λ j w2 b2 k2. tree_then seq frame out (h + 3) pi pt (pt + 1 + 1 + 1) l t (tree_does t l seq frame out (h + 3) pi sd fs.2 pl.2.1.1.0) c (j ∷ (o ∷ (nil ∷ st))) (j ∷ (o ∷ (nil ∷ []))) st w2
-        (λ v. set_by_send files top b (with_loop l frame) s.line o set (j ∷ (v ∷ [])) v) high (omega arith) refl b2
-        (λ v w3 b3 k3. set_ends l seq frame out h pt (start l s) 3 s.line set 2 (self_flag a) (j ∷ (v ∷ [])) o v (v ∷ (j ∷ (o ∷ (nil ∷ st)))) st w3 c (pt + 1 + 1 + 1) done sd.of_first (self_bit a) refl pl.2.1.1.1 refl (λ z r. r) k3) k2) k1) k)
-    form_does (operate_attribute a x t f m n) l s seq frame out h p sd fs pl = λ c st w high le k.
-        let pa = finish (p + 1) (shape l a) in let pv = finish (pa + 1 + 1) (shape l t) in let fin = pv + 1 + 1 + 1 + 1 in
-        on seq frame c p st w (start l s) PutNil (p + 1) (nil ∷ st) w pl.0 refl
-        (tree_then seq frame out (h + 1) (p + 1) pa fin l a (tree_does a l seq frame out (h + 1) (p + 1) sd fs.0 pl.2.0) c (nil ∷ st) (nil ∷ []) st w
-        (λ o. then (call_method files b (with_loop l frame) s.line o x [] no_block false) (λ u. then (run_it l frame t) (λ v. then (call_method files b (with_loop l frame) n u f (v ∷ []) no_block false) (λ r. set_by_send files top b (with_loop l frame) s.line o m (r ∷ []) r)))) high (omega arith) refl le
-        (λ o w1 b1 k1. on seq frame c pa (o ∷ (nil ∷ st)) w1 (start l s) Dup (pa + 1) (o ∷ (o ∷ (nil ∷ st))) w1 pl.2.1.0 refl
-        (send_then l seq frame out (pa + 1) fin s.line x 0 (self_flag a) [] o (o ∷ (nil ∷ st)) (o ∷ (nil ∷ [])) st w1 c (λ u. then (run_it l frame t) (λ v. then (call_method files b (with_loop l frame) n u f (v ∷ []) no_block false) (λ r. set_by_send files top b (with_loop l frame) s.line o m (r ∷ []) r))) sd.of_first (self_bit a) refl pl.2.1.2.0 pl.2.1.2.1 refl b1
-        (λ u w2 b2 k2. operate_ends l seq frame out h (pa + 1 + 1) (start l s) 2 s.line n f m 1 (self_flag a) t (λ r. r ∷ []) o (o ∷ (nil ∷ st)) (o ∷ (nil ∷ [])) st u w2 c sd.of_first (self_bit a) (λ v. refl) pl.2.1.2.2 (omega (arith, high.tall)) refl high b2 (λ q v z. refl) (tree_does t l seq frame out (h + 3) (pa + 1 + 1) sd fs.1 pl.2.1.2.2.0) k2) k1)) k)
-    form_does (or_attribute a x t m) l s seq frame out h p sd fs pl = λ c st w high le k.
-        let pa = finish (p + 1) (shape l a) in let pv = finish (pa + 1 + 1 + 1 + 1 + 1) (shape l t) in let fin = pv + 1 + 1 + 1 + 1 + 1 + 1 in
-        on seq frame c p st w (start l s) PutNil (p + 1) (nil ∷ st) w pl.0 refl
-        (tree_then seq frame out (h + 1) (p + 1) pa fin l a (tree_does a l seq frame out (h + 1) (p + 1) sd fs.0 pl.2.0) c (nil ∷ st) (nil ∷ []) st w
-        (λ o. then (call_method files b (with_loop l frame) s.line o x [] no_block false) (λ u. choose (is_true u) (Done u) (then (run_it l frame t) (λ v. set_by_send files top b (with_loop l frame) s.line o m (v ∷ []) v)))) high (omega arith) refl le
-        (λ o w1 b1 k1. on seq frame c pa (o ∷ (nil ∷ st)) w1 (start l s) Dup (pa + 1) (o ∷ (o ∷ (nil ∷ st))) w1 pl.2.1.0 refl
-        (send_then l seq frame out (pa + 1) fin s.line x 0 (self_flag a) [] o (o ∷ (nil ∷ st)) (o ∷ (nil ∷ [])) st w1 c (λ u. choose (is_true u) (Done u) (then (run_it l frame t) (λ v. set_by_send files top b (with_loop l frame) s.line o m (v ∷ []) v))) sd.of_first (self_bit a) refl pl.2.1.2.0 pl.2.1.2.1 refl b1
-        (λ u w2 b2 k2. or_ends (is_true u) l seq frame out h (pa + 1 + 1) (start l s) 2 s.line m 1 (self_flag a) t (λ v. v ∷ []) o (o ∷ (nil ∷ st)) (o ∷ (nil ∷ [])) st (u ∷ (o ∷ (u ∷ st))) u w2 c BranchIf (is_true u) sd.of_first (self_bit a) (λ v. refl) pl.2.1.2.2 (omega (arith, high.tall)) refl high b2 (λ q. refl) (λ q v z. refl) (λ q. refl) (λ q. refl) (tree_does t l seq frame out (h + 2) (pa + 1 + 1 + 1 + 1 + 1) sd fs.1 pl.2.1.2.2.2.2.2.0) refl k2) k1)) k)
-    form_does (and_attribute a x t m) l s seq frame out h p sd fs pl = λ c st w high le k.
-        let pa = finish (p + 1) (shape l a) in let pv = finish (pa + 1 + 1 + 1 + 1 + 1) (shape l t) in let fin = pv + 1 + 1 + 1 + 1 + 1 + 1 in
-        on seq frame c p st w (start l s) PutNil (p + 1) (nil ∷ st) w pl.0 refl
-        (tree_then seq frame out (h + 1) (p + 1) pa fin l a (tree_does a l seq frame out (h + 1) (p + 1) sd fs.0 pl.2.0) c (nil ∷ st) (nil ∷ []) st w
-        (λ o. then (call_method files b (with_loop l frame) s.line o x [] no_block false) (λ u. choose (is_true u) (then (run_it l frame t) (λ v. set_by_send files top b (with_loop l frame) s.line o m (v ∷ []) v)) (Done u))) high (omega arith) refl le
-        (λ o w1 b1 k1. on seq frame c pa (o ∷ (nil ∷ st)) w1 (start l s) Dup (pa + 1) (o ∷ (o ∷ (nil ∷ st))) w1 pl.2.1.0 refl
-        (send_then l seq frame out (pa + 1) fin s.line x 0 (self_flag a) [] o (o ∷ (nil ∷ st)) (o ∷ (nil ∷ [])) st w1 c (λ u. choose (is_true u) (then (run_it l frame t) (λ v. set_by_send files top b (with_loop l frame) s.line o m (v ∷ []) v)) (Done u)) sd.of_first (self_bit a) refl pl.2.1.2.0 pl.2.1.2.1 refl b1
-        (λ u w2 b2 k2. or_ends (not (is_true u)) l seq frame out h (pa + 1 + 1) (start l s) 2 s.line m 1 (self_flag a) t (λ v. v ∷ []) o (o ∷ (nil ∷ st)) (o ∷ (nil ∷ [])) st (u ∷ (o ∷ (u ∷ st))) u w2 c BranchUnless (not (is_true u)) sd.of_first (self_bit a) (λ v. refl) pl.2.1.2.2 (omega (arith, high.tall)) refl high b2 (λ q. refl) (λ q v z. refl) (λ q. refl) (λ q. refl) (tree_does t l seq frame out (h + 2) (pa + 1 + 1 + 1 + 1 + 1) sd fs.1 pl.2.1.2.2.2.2.2.0) refl (subst (λ y. A seq frame c fin st out y) (choose_not (is_true u) (then (run_it l frame t) (λ v. set_by_send files top b (with_loop l frame) s.line o m (v ∷ []) v)) (Done u) w2) k2)) k1)) k)
-    form_does (operate_index a i t f n) l s seq frame out h p sd fs pl = λ c st w high le k.
-        let pa = finish (p + 1) (shape l a) in let pi = finish pa (shape l i) in let pr = pi + 1 + 1 + 1 in let pv = finish (pr) (shape l t) in let fin = pv + 1 + 1 + 1 + 1 in let set = codes "[]=" in
-        on seq frame c p st w (start l s) PutNil (p + 1) (nil ∷ st) w pl.0 refl
-        (tree_then seq frame out (h + 1) (p + 1) pa fin l a (tree_does a l seq frame out (h + 1) (p + 1) sd fs.0 pl.2.0) c (nil ∷ st) (nil ∷ []) st w
-        (λ o. then (run_it l frame i) (λ j. then (call_method files b (with_loop l frame) s.line o (codes "[]") (j ∷ []) no_block false) (λ u. then (run_it l frame t) (λ v. then (call_method files b (with_loop l frame) n u f (v ∷ []) no_block false) (λ r. set_by_send files top b (with_loop l frame) s.line o set (j ∷ (r ∷ [])) r))))) high (omega arith) refl le
-        (λ o w1 b1 k1. tree_then seq frame out (h + 2) pa pi fin l i (tree_does i l seq frame out (h + 2) pa sd fs.1 pl.2.1.0) c (o ∷ (nil ∷ st)) (o ∷ (nil ∷ [])) st w1
-        (λ j. then (call_method files b (with_loop l frame) s.line o (codes "[]") (j ∷ []) no_block false) (λ u. then (run_it l frame t) (λ v. then (call_method files b (with_loop l frame) n u f (v ∷ []) no_block false) (λ r. set_by_send files top b (with_loop l frame) s.line o set (j ∷ (r ∷ [])) r)))) high (omega arith) refl b1
-        (λ j w3 b3 k3. on seq frame c pi (j ∷ (o ∷ (nil ∷ st))) w3 (start l s) (TopN 1) (pi + 1) (o ∷ (j ∷ (o ∷ (nil ∷ st)))) w3 pl.2.1.1.0 refl
-        (on seq frame c (pi + 1) (o ∷ (j ∷ (o ∷ (nil ∷ st)))) w3 (start l s) (TopN 1) (pi + 1 + 1) (j ∷ (o ∷ (j ∷ (o ∷ (nil ∷ st))))) w3 pl.2.1.1.2.0 refl
-        (send_then l seq frame out (pi + 1 + 1) fin s.line (codes "[]") 1 (self_flag a) (j ∷ []) o (j ∷ (o ∷ (nil ∷ st))) (j ∷ (o ∷ (nil ∷ []))) st w3 c (λ u. then (run_it l frame t) (λ v. then (call_method files b (with_loop l frame) n u f (v ∷ []) no_block false) (λ r. set_by_send files top b (with_loop l frame) s.line o set (j ∷ (r ∷ [])) r))) sd.of_first (self_bit a) refl pl.2.1.1.2.2.0 pl.2.1.1.2.2.1 refl b3
-        (λ u w2 b2 k2. operate_ends l seq frame out h pr (start l s) 3 s.line n f set 2 (self_flag a) t (λ r. j ∷ (r ∷ [])) o (j ∷ (o ∷ (nil ∷ st))) (j ∷ (o ∷ (nil ∷ []))) st u w2 c sd.of_first (self_bit a) (λ v. refl) pl.2.1.1.2.2.2 (omega (arith, high.tall)) refl high b2 (λ q v z. refl) (tree_does t l seq frame out (h + 4) pr sd fs.2 pl.2.1.1.2.2.2.0) k2) k3))) k1) k)
-    form_does (or_index a i t) l s seq frame out h p sd fs pl = λ c st w high le k.
-        let pa = finish (p + 1) (shape l a) in let pi = finish pa (shape l i) in let pr = pi + 1 + 1 + 1 in let pv = finish (pr + 1 + 1 + 1) (shape l t) in let fin = pv + 1 + 1 + 1 + 1 + 1 + 1 in let set = codes "[]=" in
-        on seq frame c p st w (start l s) PutNil (p + 1) (nil ∷ st) w pl.0 refl
-        (tree_then seq frame out (h + 1) (p + 1) pa fin l a (tree_does a l seq frame out (h + 1) (p + 1) sd fs.0 pl.2.0) c (nil ∷ st) (nil ∷ []) st w
-        (λ o. then (run_it l frame i) (λ j. then (call_method files b (with_loop l frame) s.line o (codes "[]") (j ∷ []) no_block false) (λ u. choose (is_true u) (Done u) (then (run_it l frame t) (λ v. set_by_send files top b (with_loop l frame) s.line o set (j ∷ (v ∷ [])) v))))) high (omega arith) refl le
-        (λ o w1 b1 k1. tree_then seq frame out (h + 2) pa pi fin l i (tree_does i l seq frame out (h + 2) pa sd fs.1 pl.2.1.0) c (o ∷ (nil ∷ st)) (o ∷ (nil ∷ [])) st w1
-        (λ j. then (call_method files b (with_loop l frame) s.line o (codes "[]") (j ∷ []) no_block false) (λ u. choose (is_true u) (Done u) (then (run_it l frame t) (λ v. set_by_send files top b (with_loop l frame) s.line o set (j ∷ (v ∷ [])) v)))) high (omega arith) refl b1
-        (λ j w3 b3 k3. on seq frame c pi (j ∷ (o ∷ (nil ∷ st))) w3 (start l s) (TopN 1) (pi + 1) (o ∷ (j ∷ (o ∷ (nil ∷ st)))) w3 pl.2.1.1.0 refl
-        (on seq frame c (pi + 1) (o ∷ (j ∷ (o ∷ (nil ∷ st)))) w3 (start l s) (TopN 1) (pi + 1 + 1) (j ∷ (o ∷ (j ∷ (o ∷ (nil ∷ st))))) w3 pl.2.1.1.2.0 refl
-        (send_then l seq frame out (pi + 1 + 1) fin s.line (codes "[]") 1 (self_flag a) (j ∷ []) o (j ∷ (o ∷ (nil ∷ st))) (j ∷ (o ∷ (nil ∷ []))) st w3 c (λ u. choose (is_true u) (Done u) (then (run_it l frame t) (λ v. set_by_send files top b (with_loop l frame) s.line o set (j ∷ (v ∷ [])) v))) sd.of_first (self_bit a) refl pl.2.1.1.2.2.0 pl.2.1.1.2.2.1 refl b3
-        (λ u w2 b2 k2. or_ends (is_true u) l seq frame out h pr (start l s) 3 s.line set 2 (self_flag a) t (λ v. j ∷ (v ∷ [])) o (j ∷ (o ∷ (nil ∷ st))) (j ∷ (o ∷ (nil ∷ []))) st (u ∷ (j ∷ (o ∷ (u ∷ st)))) u w2 c BranchIf (is_true u) sd.of_first (self_bit a) (λ v. refl) pl.2.1.1.2.2.2 (omega (arith, high.tall)) refl high b2 (λ q. refl) (λ q v z. refl) (λ q. refl) (λ q. refl) (tree_does t l seq frame out (h + 3) (pr + 1 + 1 + 1) sd fs.2 pl.2.1.1.2.2.2.2.2.2.0) refl k2) k3))) k1) k)
-    form_does (and_index a i t) l s seq frame out h p sd fs pl = λ c st w high le k.
-        let pa = finish (p + 1) (shape l a) in let pi = finish pa (shape l i) in let pr = pi + 1 + 1 + 1 in let pv = finish (pr + 1 + 1 + 1) (shape l t) in let fin = pv + 1 + 1 + 1 + 1 + 1 + 1 in let set = codes "[]=" in
-        on seq frame c p st w (start l s) PutNil (p + 1) (nil ∷ st) w pl.0 refl
-        (tree_then seq frame out (h + 1) (p + 1) pa fin l a (tree_does a l seq frame out (h + 1) (p + 1) sd fs.0 pl.2.0) c (nil ∷ st) (nil ∷ []) st w
-        (λ o. then (run_it l frame i) (λ j. then (call_method files b (with_loop l frame) s.line o (codes "[]") (j ∷ []) no_block false) (λ u. choose (is_true u) (then (run_it l frame t) (λ v. set_by_send files top b (with_loop l frame) s.line o set (j ∷ (v ∷ [])) v)) (Done u)))) high (omega arith) refl le
-        (λ o w1 b1 k1. tree_then seq frame out (h + 2) pa pi fin l i (tree_does i l seq frame out (h + 2) pa sd fs.1 pl.2.1.0) c (o ∷ (nil ∷ st)) (o ∷ (nil ∷ [])) st w1
-        (λ j. then (call_method files b (with_loop l frame) s.line o (codes "[]") (j ∷ []) no_block false) (λ u. choose (is_true u) (then (run_it l frame t) (λ v. set_by_send files top b (with_loop l frame) s.line o set (j ∷ (v ∷ [])) v)) (Done u))) high (omega arith) refl b1
-        (λ j w3 b3 k3. on seq frame c pi (j ∷ (o ∷ (nil ∷ st))) w3 (start l s) (TopN 1) (pi + 1) (o ∷ (j ∷ (o ∷ (nil ∷ st)))) w3 pl.2.1.1.0 refl
-        (on seq frame c (pi + 1) (o ∷ (j ∷ (o ∷ (nil ∷ st)))) w3 (start l s) (TopN 1) (pi + 1 + 1) (j ∷ (o ∷ (j ∷ (o ∷ (nil ∷ st))))) w3 pl.2.1.1.2.0 refl
-        (send_then l seq frame out (pi + 1 + 1) fin s.line (codes "[]") 1 (self_flag a) (j ∷ []) o (j ∷ (o ∷ (nil ∷ st))) (j ∷ (o ∷ (nil ∷ []))) st w3 c (λ u. choose (is_true u) (then (run_it l frame t) (λ v. set_by_send files top b (with_loop l frame) s.line o set (j ∷ (v ∷ [])) v)) (Done u)) sd.of_first (self_bit a) refl pl.2.1.1.2.2.0 pl.2.1.1.2.2.1 refl b3
-        (λ u w2 b2 k2. or_ends (not (is_true u)) l seq frame out h pr (start l s) 3 s.line set 2 (self_flag a) t (λ v. j ∷ (v ∷ [])) o (j ∷ (o ∷ (nil ∷ st))) (j ∷ (o ∷ (nil ∷ []))) st (u ∷ (j ∷ (o ∷ (u ∷ st)))) u w2 c BranchUnless (not (is_true u)) sd.of_first (self_bit a) (λ v. refl) pl.2.1.1.2.2.2 (omega (arith, high.tall)) refl high b2 (λ q. refl) (λ q v z. refl) (λ q. refl) (λ q. refl) (tree_does t l seq frame out (h + 3) (pr + 1 + 1 + 1) sd fs.2 pl.2.1.1.2.2.2.2.2.2.0) refl (subst (λ y. A seq frame c fin st out y) (choose_not (is_true u) (then (run_it l frame t) (λ v. set_by_send files top b (with_loop l frame) s.line o set (j ∷ (v ∷ [])) v)) (Done u) w2) k2)) k3))) k1) k)
+    form_does (assign_attribute a t m) l s seq frame out h p sd fs pl = form_assign_attribute_ends a t m l s seq frame out h p sd (λ o1 h1 p1 pl1. tree_does a l seq frame o1 h1 p1 sd fs.0 pl1) (λ o1 h1 p1 pl1. tree_does t l seq frame o1 h1 p1 sd fs.1 pl1) fs pl
+    form_does (assign_index a i t) l s seq frame out h p sd fs pl = form_assign_index_ends a i t l s seq frame out h p sd (λ o1 h1 p1 pl1. tree_does a l seq frame o1 h1 p1 sd fs.0 pl1) (λ o1 h1 p1 pl1. tree_does i l seq frame o1 h1 p1 sd fs.1 pl1) (λ o1 h1 p1 pl1. tree_does t l seq frame o1 h1 p1 sd fs.2 pl1) fs pl
+    form_does (operate_attribute a x t f m n) l s seq frame out h p sd fs pl = form_operate_attribute_ends a x t f m n l s seq frame out h p sd (λ o1 h1 p1 pl1. tree_does a l seq frame o1 h1 p1 sd fs.0 pl1) (λ o1 h1 p1 pl1. tree_does t l seq frame o1 h1 p1 sd fs.1 pl1) fs pl
+    form_does (or_attribute a x t m) l s seq frame out h p sd fs pl = form_or_attribute_ends a x t m l s seq frame out h p sd (λ o1 h1 p1 pl1. tree_does a l seq frame o1 h1 p1 sd fs.0 pl1) (λ o1 h1 p1 pl1. tree_does t l seq frame o1 h1 p1 sd fs.1 pl1) fs pl
+    form_does (and_attribute a x t m) l s seq frame out h p sd fs pl = form_and_attribute_ends a x t m l s seq frame out h p sd (λ o1 h1 p1 pl1. tree_does a l seq frame o1 h1 p1 sd fs.0 pl1) (λ o1 h1 p1 pl1. tree_does t l seq frame o1 h1 p1 sd fs.1 pl1) fs pl
+    form_does (operate_index a i t f n) l s seq frame out h p sd fs pl = form_operate_index_ends a i t f n l s seq frame out h p sd (λ o1 h1 p1 pl1. tree_does a l seq frame o1 h1 p1 sd fs.0 pl1) (λ o1 h1 p1 pl1. tree_does i l seq frame o1 h1 p1 sd fs.1 pl1) (λ o1 h1 p1 pl1. tree_does t l seq frame o1 h1 p1 sd fs.2 pl1) fs pl
+    form_does (or_index a i t) l s seq frame out h p sd fs pl = form_or_index_ends a i t l s seq frame out h p sd (λ o1 h1 p1 pl1. tree_does a l seq frame o1 h1 p1 sd fs.0 pl1) (λ o1 h1 p1 pl1. tree_does i l seq frame o1 h1 p1 sd fs.1 pl1) (λ o1 h1 p1 pl1. tree_does t l seq frame o1 h1 p1 sd fs.2 pl1) fs pl
+    form_does (and_index a i t) l s seq frame out h p sd fs pl = form_and_index_ends a i t l s seq frame out h p sd (λ o1 h1 p1 pl1. tree_does a l seq frame o1 h1 p1 sd fs.0 pl1) (λ o1 h1 p1 pl1. tree_does i l seq frame o1 h1 p1 sd fs.1 pl1) (λ o1 h1 p1 pl1. tree_does t l seq frame o1 h1 p1 sd fs.2 pl1) fs pl
     form_does (send o ts ks v x bare t) l s seq frame out h p sd fs pl = λ c st w high le k.
         let fin = finish p (form_shape l (send o ts ks v x bare t) s) in let flags = receiver_flag o + value_flag v + bare_flag bare in
         receiver_does o l seq frame out h p (start l s) _ sd fs.0 pl c st w fin
@@ -704,60 +887,58 @@ module _ (files : Files) (b : Tree → Frame → Run) (seqs : ℕ → Routine) (
         (λ j. sent files b seqs bodies j frame (own l s) self x ks us bare g z3)
         (send_acts seq frame q3 stk3 z3 (own l s) x (count ts) ks flags (is_with v) bare g us self st (flags_valued (receiver_flag o) v bare (receiver_bit o)) (flags_bare (receiver_flag o) v bare (receiver_bit o)) (omega arith) taken)
         _ (send_means t v l frame sd.of_first fs.3 s.line self x ks us bare g z3 only) a3) a2) a1) k
-    form_does (safe_send a ts ks v x t) l s seq frame out h p sd fs pl = λ c st w high le k. ?
+    form_does (safe_send a ts ks v x t) l s seq frame out h p sd fs pl = λ c st w high le k.
+        let flags = self_flag a + value_flag v in let rest = args_shape l 1 ts (value_shape l (suc (count ts)) v (with_literal l (own l s) (Send x (count ts) ks flags) t)) in
+        let p1 = finish p (shape l a) in let fin = finish (p1 + 1 + 1) rest in
+        tree_then seq frame out (h + 0) p p1 fin l a (tree_does a l seq frame out (h + 0) p sd fs.0 pl.0) c st [] st w
+        (λ self. unless_nil self (run_trees files top b ts (with_loop l frame) [] (λ vs. run_given_value files top b v (with_loop l frame) s.line no_block (λ given. with_block t (with_loop l frame) given (send_with files top b (with_loop l frame) s.line self x ks vs false))))) high (omega arith) refl le
+        (λ self z b1 k1. on seq frame c p1 (self ∷ st) z (start l s) Dup (p1 + 1) (self ∷ (self ∷ st)) z pl.1.0 refl
+        (safe_does ts v t l s seq frame out h (p1 + 1) ks x flags sd fs.1 fs.2 fs.3 pl.1.2 (flags_safe (self_flag a) v (self_bit a)) (bare_safe (self_flag a) v (self_bit a)) c st self z fin refl high b1 (nil_or self) k1)) k
     form_does (yield ts ks) l s seq frame out h p sd fs pl = λ c st w high le k.
         args_does ts l seq frame out h p 0 _ sd fs pl c st [] w (finish p (form_shape l (yield ts ks) s)) [] (λ vs. reading (spread ks vs) (λ us. run_given b (with_loop l frame) s.line frame.block us)) refl refl high le
         (λ vs q z pl1 e1 n1 b1 k1. answered seq frame c q (q + 1) (pushed vs st) st (pushed vs []) z out (own l s) (InvokeBlock (count ts) ks) (run_given b frame (own l s) frame.block (spread ks vs z) z) (run_given b (with_loop l frame) s.line frame.block (spread ks vs z) z) pl1.0 pl1.1
         (args_off vs st (count ts) _ (omega arith)) (pushed_over vs [] st) (ap (λ f. f z) (given_block_same (with_loop l frame) frame s.line (own l s) refl (own_lines l frame sd.of_first s.line) files b frame.block (spread ks vs z)))
         (subst (λ y. A seq frame c y st out (run_given b (with_loop l frame) s.line frame.block (spread ks vs z) z)) (sym e1) k1)) k
-    form_does (super ts ks v t) l s seq frame out h p sd fs pl = λ c st w high le k. ?
-    form_does (bare_super t) l s seq frame out h p sd fs pl = λ c st w high le k. ?
+    form_does (super ts ks v t) l s seq frame out h p sd fs pl = λ c st w high le k.
+        let fin = finish p (form_shape l (super ts ks v t) s) in
+        on seq frame c p st w (own l s) PutSelf (p + 1) (frame.self_value ∷ st) w pl.0 refl
+        (args_does ts l seq frame out h (p + 1) 1 _ sd fs.0 pl.2 c st (frame.self_value ∷ []) w fin []
+        (λ vs. run_given_value files top b v (with_loop l frame) s.line frame.block (λ given. reading (spread ks vs) (λ ys. super_to files top b frame.method (with_loop l frame) s.line t given ys)))
+        refl refl high le
+        (λ us q2 z2 pl2 e2 n2 b2 a2. value_does v l seq frame out h q2 (suc (count ts)) _ sd fs.1 pl2 c st (pushed us (frame.self_value ∷ st)) (pushed us (frame.self_value ∷ [])) z2 fin s.line frame.block
+        (λ given. reading (spread ks us) (λ ys. super_to files top b frame.method (with_loop l frame) s.line t given ys)) e2 high (let m1 = pushed_length us (frame.self_value ∷ st) in omega (arith, high.tall)) (pushed_over us (frame.self_value ∷ []) st) b2
+        (λ g q3 z3 stk3 extra3 pl3 e3 over3 only taken a3. call_ends t l seq frame out h q3 (own l s) (InvokeSuper (count ts) ks (1 + value_flag v)) pl3 c st z3 fin stk3 extra3 e3 high.tall over3
+        (λ j. super_sent files b seqs bodies j frame (own l s) ks us g z3)
+        (super_acts seq frame q3 stk3 z3 (own l s) (count ts) ks (1 + value_flag v) (is_with v) g us frame.self_value st (flag_super v) (omega arith) taken)
+        _ (super_means t v l frame sd.of_first fs.2 s.line ks us g z3 only) a3) a2) k)
+    form_does (bare_super t) l s seq frame out h p sd fs pl = λ c st w high le k.
+        let names = names_of_params (params_of l.sight.body) in let fin = finish p (form_shape l (bare_super t) s) in
+        let k1 : A seq frame c fin st out (super_to files top b frame.method (with_loop l frame) s.line t frame.block (map (λ x. read_local frame x w) names) w) =
+        subst (λ y. A seq frame c fin st out (super_to files top b frame.method (with_loop l frame) s.line t frame.block (map (λ x. read_local frame x w) (names_of_params (params_of y))) w)) sd.of_body k in
+        on seq frame c p st w (own l s) PutSelf (p + 1) (frame.self_value ∷ st) w pl.0 refl
+        (gets_does names l seq frame out h (p + 1) (own l s) _ fs.0 pl.2 c (frame.self_value ∷ st) w fin [] refl le
+        (λ us q pl1 e1 same. call_ends t l seq frame out h q (own l s) (InvokeSuper (length names) [] 1) pl1 c st w fin (pushed us (frame.self_value ∷ st)) (pushed us (frame.self_value ∷ [])) e1 high.tall (pushed_over us (frame.self_value ∷ []) st)
+        (λ j. super_sent files b seqs bodies j frame (own l s) [] us None w)
+        (super_acts seq frame q (pushed us (frame.self_value ∷ st)) w (own l s) (length names) [] 1 false None us frame.self_value st refl (omega (arith, ap length same, map_length (λ x. read_local frame x w) names)) (λ next. refl))
+        _ (super_means t without l frame sd.of_first fs.1 s.line [] us None w (λ y. refl))
+        (subst (λ y. A seq frame c fin st out (super_to files top b frame.method (with_loop l frame) s.line t frame.block y w)) (sym same ∙ sym (spread_none us w)) k1)))
     form_does bare_raise l s seq frame out h p sd fs pl = λ c st w high le k.
         let stk = frame.handled ∷ (frame.self_value ∷ st) in
         on seq frame c p st w (own l s) PutSelf (p + 1) (frame.self_value ∷ st) w pl.0 refl
         (on seq frame c (p + 1) (frame.self_value ∷ st) w (own l s) (TopN h) (p + 1 + 1) stk w pl.2.0 (item_last frame.handled frame.self_value st h (λ v. goes (p + 1 + 1) (v ∷ (frame.self_value ∷ st)) w) (high.bottom fs) high.tall)
         (plain_ends l seq frame out (p + 1 + 1) s.line (codes "raise") 1 1 (frame.handled ∷ []) frame.self_value st w c sd.of_first (inr refl) refl pl.2.2.0 pl.2.2.1 k))
-    form_does (negated a) l s seq frame out h p sd fs pl = λ c st w high le k.
-        let p1 = finish p (shape l a) in
-        tree_then seq frame out (h + 0) p p1 (p1 + 1) l a (tree_does a l seq frame out (h + 0) p sd fs pl.0) c st [] st w (λ v. call_method files b (with_loop l frame) s.line v (codes "!") [] no_block false) high (omega arith) refl le
-        (λ v z b1 k1. plain_ends l seq frame out p1 s.line (codes "!") 0 (self_flag a) [] v st z c sd.of_first (self_bit a) refl pl.1.0 pl.1.1 k1) k
+    form_does (negated a) l s seq frame out h p sd fs pl = form_negated_ends a l s seq frame out h p sd (λ o1 h1 p1 pl1. tree_does a l seq frame o1 h1 p1 sd fs pl1) fs pl
     form_does (statements ts) l s seq frame out h p sd fs pl = all_does ts l seq frame out h p (own l s) sd fs pl
-    form_does (both a e) l s seq frame out h p sd fs pl = λ c st w high le k.
-        let p1 = finish p (shape l a) in let n = suc (size (shape l e)) in let fin = finish (p1 + 1 + 1 + 1) (shape l e) in
-        tree_then seq frame out (h + 0) p p1 fin l a (tree_does a l seq frame out (h + 0) p sd fs.0 pl.0) c st [] st w (λ v. choose (is_true v) (run_it l frame e) (Done v)) high (omega arith) refl le
-        (λ v z b1 k1. on seq frame c p1 (v ∷ st) z (own l s) Dup (p1 + 1) (v ∷ (v ∷ st)) z pl.1.0 refl
-        (short_ends l seq frame out (h + 0) (p1 + 1) n (own l s) fin (BranchUnless (p1 + 1 + 1 + n)) (run_it l frame e) c st v z (not (is_true v)) pl.1.2.0 refl (let g = finish_size (shape l e) (p1 + 1 + 1 + 1) in omega arith) pl.1.2.2.0
-        (tree_does e l seq frame out (h + 0) (p1 + 1 + 1 + 1) sd fs.1 pl.1.2.2.2.0) (plus_zero _ _ _ _ high) b1 (not (is_true v)) refl (subst (λ y. A seq frame c fin st out y) (choose_not (is_true v) (run_it l frame e) (Done v) z) k1))) k
-    form_does (either a e) l s seq frame out h p sd fs pl = λ c st w high le k.
-        let p1 = finish p (shape l a) in let n = suc (size (shape l e)) in let fin = finish (p1 + 1 + 1 + 1) (shape l e) in
-        tree_then seq frame out (h + 0) p p1 fin l a (tree_does a l seq frame out (h + 0) p sd fs.0 pl.0) c st [] st w (λ v. choose (is_true v) (Done v) (run_it l frame e)) high (omega arith) refl le
-        (λ v z b1 k1. on seq frame c p1 (v ∷ st) z (own l s) Dup (p1 + 1) (v ∷ (v ∷ st)) z pl.1.0 refl
-        (short_ends l seq frame out (h + 0) (p1 + 1) n (own l s) fin (BranchIf (p1 + 1 + 1 + n)) (run_it l frame e) c st v z (is_true v) pl.1.2.0 refl (let g = finish_size (shape l e) (p1 + 1 + 1 + 1) in omega arith) pl.1.2.2.0
-        (tree_does e l seq frame out (h + 0) (p1 + 1 + 1 + 1) sd fs.1 pl.1.2.2.2.0) (plus_zero _ _ _ _ high) b1 (is_true v) refl k1)) k
+    form_does (both a e) l s seq frame out h p sd fs pl = form_both_ends a e l s seq frame out h p sd (λ o1 h1 p1 pl1. tree_does a l seq frame o1 h1 p1 sd fs.0 pl1) (λ o1 h1 p1 pl1. tree_does e l seq frame o1 h1 p1 sd fs.1 pl1) fs pl
+    form_does (either a e) l s seq frame out h p sd fs pl = form_either_ends a e l s seq frame out h p sd (λ o1 h1 p1 pl1. tree_does a l seq frame o1 h1 p1 sd fs.0 pl1) (λ o1 h1 p1 pl1. tree_does e l seq frame o1 h1 p1 sd fs.1 pl1) fs pl
     form_does (if_else e a o) l s seq frame out h p sd fs pl = λ c st w high le k.
         let pb = finish p (shape l e) in let pa = finish (pb + 1) (shape l a) in let fin = finish (pa + 1) (other_shape l o) in
         tree_then seq frame out (h + 0) p pb fin l e (tree_does e l seq frame out (h + 0) p sd fs.0 pl.0) c st [] st w (λ v. choose (is_true v) (run_it l frame a) (run_other files top b o (with_loop l frame))) high (omega arith) refl le
         (λ v z b1 k1. if_ends l seq frame out h pb (size (shape l a) + 1) pa (size (other_shape l o)) (own l s) fin (run_it l frame a) (run_other files top b o (with_loop l frame)) c st v z pl.1.0
         (let g = finish_size (shape l a) (pb + 1) in omega arith) pl.1.2.1.0 (let g = finish_size (other_shape l o) (pa + 1) in omega arith)
         (λ c1 st1 w1 high1. tree_does a l seq frame out (h + 0) (pb + 1) sd fs.1 pl.1.2.0 c1 st1 w1 (plus_zero _ _ _ _ high1)) (other_does o l seq frame out h (pa + 1) sd fs.2 pl.1.2.1.2.0) high b1 (is_true v) refl k1) k
-    form_does (while_loop a e u true) l s seq frame out h p sd fs pl = λ c st w high le k.
-        let pn = finish p (shape (looped l) a) in let pc = finish (pn + 1) (shape l e) in let n = size (shape (looped l) a) + 1 + size (shape l e) in
-        let g1 = finish_size (shape (looped l) a) p in let g2 = finish_size (shape l e) (pn + 1) in
-        tree_does a (looped l) seq frame _ h p sd fs.0 pl.0.0 c st w high le
-        (turn_ends files b seqs bodies top l.clause l.sight.scopes seq frame out h p pn pc (size (shape l e) + 3) (own l s) (own l s) (own l s) (pc - n) u (run_it l frame e) (run_it (looped l) frame a) pl.1.0 pl.1.1 pl.1.2.1.0 pl.1.2.1.1 (omega arith) (omega arith) pl.1.2.1.2.0 (omega arith)
-        (known.trees l.sight.scopes frame (with_loop l frame) refl e) (known.trees l.sight.scopes frame (with_loop (looped l) frame) refl a) (tree_does a (looped l) seq frame _ h p sd fs.0 pl.0.0) (λ c1 st1 w1 high1. tree_does e l seq frame out (h + 0) (pn + 1) sd fs.1 pl.1.2.0 c1 st1 w1 (plus_zero _ _ _ _ high1)) c st high
-        top (loop top u (run_it l frame e) (run_it (looped l) frame a))
-        (λ w1 b1 k1. turns_run files b seqs bodies top l.clause l.sight.scopes seq frame out h p pn pc (size (shape l e) + 3) (own l s) (own l s) (own l s) (pc - n) u (run_it l frame e) (run_it (looped l) frame a) pl.1.0 pl.1.1 pl.1.2.1.0 pl.1.2.1.1 (omega arith) (omega arith) pl.1.2.1.2.0 (omega arith)
-        (known.trees l.sight.scopes frame (with_loop l frame) refl e) (known.trees l.sight.scopes frame (with_loop (looped l) frame) refl a) (tree_does a (looped l) seq frame _ h p sd fs.0 pl.0.0) (λ c1 st1 w2 high1. tree_does e l seq frame out (h + 0) (pn + 1) sd fs.1 pl.1.2.0 c1 st1 w2 (plus_zero _ _ _ _ high1)) c st high
-        top top w1 (omega arith) (omega arith) b1 k1)
-        (run_it (looped l) frame a w) (known.trees l.sight.scopes frame (with_loop (looped l) frame) refl a top w (omega arith) le) k)
-    form_does (while_loop a e u false) l s seq frame out h p sd fs pl = λ c st w high le k.
-        let pn = finish (p + 1) (shape (looped l) a) in let pc = finish (pn + 1) (shape l e) in let n = size (shape (looped l) a) + 1 + size (shape l e) in
-        let g1 = finish_size (shape (looped l) a) (p + 1) in let g2 = finish_size (shape l e) (pn + 1) in
-        jump_to seq frame c p (size (shape (looped l) a) + 1) (own l s) (pn + 1) st w pl.0 (omega arith)
-        (turns_run files b seqs bodies top l.clause l.sight.scopes seq frame out h (p + 1) pn pc (size (shape l e) + 3) (own l s) (own l s) (own l s) (pc - n) u (run_it l frame e) (run_it (looped l) frame a) pl.2.1.0 pl.2.1.1 pl.2.1.2.1.0 pl.2.1.2.1.1 (omega arith) (omega arith) pl.2.1.2.1.2.0 (omega arith)
-        (known.trees l.sight.scopes frame (with_loop l frame) refl e) (known.trees l.sight.scopes frame (with_loop (looped l) frame) refl a) (tree_does a (looped l) seq frame _ h (p + 1) sd fs.0 pl.2.0.0) (λ c1 st1 w2 high1. tree_does e l seq frame out (h + 0) (pn + 1) sd fs.1 pl.2.1.2.0 c1 st1 w2 (plus_zero _ _ _ _ high1)) c st high
-        top top w (omega arith) (omega arith) le k)
+    form_does (while_loop a e u true) l s seq frame out h p sd fs pl = form_while_loop_first_ends a e u l s seq frame out h p sd (λ o1 h1 p1 pl1. tree_does a (looped l) seq frame o1 h1 p1 sd fs.0 pl1) (λ o1 h1 p1 pl1. tree_does e l seq frame o1 h1 p1 sd fs.1 pl1) fs pl
+    form_does (while_loop a e u false) l s seq frame out h p sd fs pl = form_while_loop_later_ends a e u l s seq frame out h p sd (λ o1 h1 p1 pl1. tree_does a (looped l) seq frame o1 h1 p1 sd fs.0 pl1) (λ o1 h1 p1 pl1. tree_does e l seq frame o1 h1 p1 sd fs.1 pl1) fs pl
     form_does (return_with ts) l s seq frame out h p sd fs pl = λ c st w high le k.
         values_does ts l seq frame out h p (own l s) _ sd fs pl c st w (finish p (form_shape l (return_with ts) s)) (leave_home (with_loop l frame) s.line) refl high le
         (λ v q z pl1 e1 b1 k1. answered seq frame c q (q + 1) (v ∷ st) st (v ∷ []) z out (own l s) (Throw 1) (leave_home frame (own l s) v z) (leave_home (with_loop l frame) s.line v z) pl1.0 pl1.1 refl refl
@@ -954,3 +1135,43 @@ module _ (files : Files) (b : Tree → Frame → Run) (seqs : ℕ → Routine) (
         (λ z. run_it l frame t (set_exception (with_loop l frame) x z)) (run_clauses files top b cs (with_loop l frame) n0) body_place (omega arith) le
         (λ z b1 e1. hit_ends l seq frame c sd.of_first x line body_place (shape l t) (bodies_shape l cs line) (run_it l frame t) z its_bodies (λ q pl1. tree_does t l seq frame [] (1 + 0) q sd fs.2 pl1) fs.1 b1 e1)
         (λ q z pl1 over1 b1 e1. clauses_does cs l seq frame q n0 (far + n) s (body_place + n) sd fs.3 pl1 (named_tail seq.body.code seq.body.rows [] 1 x l line body_place (shape l t) (bodies_shape l cs line) its_bodies) c z (omega arith) b1 to_end e1) e
+
+    pairs_does : (ps : Pairs) (l : Where) (seq : Routine) (frame : Frame) (out : List CatchRow) (h p : ℕ) (d : ℕ) (s : Shape) → StandsIn l frame → FindsPairs seqs bodies l ps → Placed seq.body.code seq.body.rows out h p (pairs_shape l d ps s)
+        → (c : Outcome) (st : List Value) (w : World) (fin : ℕ) (qs : List (Value × Value)) (next : List (Value × Value) → Run) → finish p (pairs_shape l d ps s) ≡ fin → length qs + length qs ≡ d → High l.clause frame.handled h st → G l frame w
+        → ((rs : List (Value × Value)) (q : ℕ) (z : World) → Placed seq.body.code seq.body.rows out h q s → finish q s ≡ fin → length rs ≡ length qs + count_pairs ps → G l frame z → A seq frame c fin st out (next rs z) → R seq frame c q (pushed (flat rs) st) z)
+        → A seq frame c fin st out (run_pairs files top b ps (with_loop l frame) qs next w) → R seq frame c p (pushed (flat qs) st) w
+    pairs_does no_pair l seq frame out h p d s sd fs pl c st w fin qs next e n high le g k = g qs p w pl e (omega arith) le k
+    pairs_does (pair t u ps) l seq frame out h p d s sd fs pl c st w fin qs next e n high le g k =
+        let p1 = finish p (shape l t) in let p2 = finish p1 (shape l u) in
+        tree_then seq frame out (h + d) p p1 fin l t (tree_does t l seq frame out (h + d) p sd fs.0 pl.0) c (pushed (flat qs) st) (pushed (flat qs) []) st w (λ x. then (run_it l frame u) (λ v. run_pairs files top b ps (with_loop l frame) (qs ++ (x, v) ∷ []) next))
+        high (let m = pushed_length (flat qs) st in omega (arith, high.tall, flat_length qs)) (pushed_over (flat qs) [] st) le
+        (λ x z b1 k1. tree_then seq frame out (h + suc d) p1 p2 fin l u (tree_does u l seq frame out (h + suc d) p1 sd fs.1 pl.1.0) c (x ∷ pushed (flat qs) st) (x ∷ pushed (flat qs) []) st z (λ v. run_pairs files top b ps (with_loop l frame) (qs ++ (x, v) ∷ []) next)
+        high (let m = pushed_length (flat qs) st in omega (arith, high.tall, flat_length qs)) (ap (λ y. x ∷ y) (pushed_over (flat qs) [] st)) b1
+        (λ v z1 b2 k2. let m = length-append qs ((x, v) ∷ []) in
+        subst (λ y. R seq frame c p2 y z1) (flat_last qs x v st) (pairs_does ps l seq frame out h p2 (suc (suc d)) s sd fs.2 pl.1.1 c st z1 fin (qs ++ (x, v) ∷ []) next e (omega arith) high b2 (λ rs q z2 pl1 e1 n1 b3 k3. g rs q z2 pl1 e1 (omega arith) b3 k3) k2)) k1) k
+
+    -- the call of a safe send, behind its receiver
+    safe_does : (ts : Trees) (v t : Other) (l : Where) (s : SourcePosition) (seq : Routine) (frame : Frame) (out : List CatchRow) (h p : ℕ) (ks : List ℕ) (x : Bytes) (flags : ℕ) → StandsIn l frame → FindsTrees seqs bodies l ts → FindsOther seqs bodies l v → FindsBlock seqs bodies l t v
+        → Placed seq.body.code seq.body.rows out h p (ahead (start l s) BranchNil (size (args_shape l 1 ts (value_shape l (suc (count ts)) v (with_literal l (own l s) (Send x (count ts) ks flags) t)))) (args_shape l 1 ts (value_shape l (suc (count ts)) v (with_literal l (own l s) (Send x (count ts) ks flags) t))))
+        → is_valued flags ≡ is_with v → is_bare flags ≡ false
+        → (c : Outcome) (st : List Value) (self : Value) (w : World) (fin : ℕ) → finish (p + 1) (args_shape l 1 ts (value_shape l (suc (count ts)) v (with_literal l (own l s) (Send x (count ts) ks flags) t))) ≡ fin → High l.clause frame.handled h st → G l frame w
+        → (self ≡ nil) ⊎ ((is_nil self ≡ false) × ((go : Run) → unless_nil self go ≡ go))
+        → A seq frame c fin st out (unless_nil self (run_trees files top b ts (with_loop l frame) [] (λ vs. run_given_value files top b v (with_loop l frame) s.line no_block (λ given. with_block t (with_loop l frame) given (send_with files top b (with_loop l frame) s.line self x ks vs false)))) w) → R seq frame c p (self ∷ (self ∷ st)) w
+    safe_does ts v t l s seq frame out h p ks x flags sd fts fv ft pl valued bare c st self w fin e high le (inl same) k =
+        let rest = args_shape l 1 ts (value_shape l (suc (count ts)) v (with_literal l (own l s) (Send x (count ts) ks flags) t)) in let g = finish_size rest (p + 1) in
+        let go : Run = run_trees files top b ts (with_loop l frame) [] (λ vs. run_given_value files top b v (with_loop l frame) s.line no_block (λ given. with_block t (with_loop l frame) given (send_with files top b (with_loop l frame) s.line self x ks vs false))) in
+        on seq frame c p (self ∷ (self ∷ st)) w (start l s) (BranchNil (p + 1 + size rest)) fin (self ∷ st) w pl.0 (branch_over (is_nil self) p (size rest) fin (self ∷ st) w (ap is_nil same) (omega arith))
+        (subst (λ y. R seq frame c fin (y ∷ st) w) (sym same) (subst (λ y. A seq frame c fin st out (unless_nil y go w)) same k))
+    safe_does ts v t l s seq frame out h p ks x flags sd fts fv ft pl valued bare c st self w fin e high le (inr other) k =
+        let rest = args_shape l 1 ts (value_shape l (suc (count ts)) v (with_literal l (own l s) (Send x (count ts) ks flags) t)) in
+        let go : Run = run_trees files top b ts (with_loop l frame) [] (λ vs. run_given_value files top b v (with_loop l frame) s.line no_block (λ given. with_block t (with_loop l frame) given (send_with files top b (with_loop l frame) s.line self x ks vs false))) in
+        on seq frame c p (self ∷ (self ∷ st)) w (start l s) (BranchNil (p + 1 + size rest)) (p + 1) (self ∷ st) w pl.0 (branch_on (is_nil self) p (p + 1 + size rest) (self ∷ st) w other.0)
+        (args_does ts l seq frame out h (p + 1) 1 _ sd fts pl.2 c st (self ∷ []) w fin []
+        (λ vs. run_given_value files top b v (with_loop l frame) s.line no_block (λ given. with_block t (with_loop l frame) given (send_with files top b (with_loop l frame) s.line self x ks vs false)))
+        e refl high le
+        (λ us q2 z2 pl2 e2 n2 b2 a2. value_does v l seq frame out h q2 (suc (count ts)) _ sd fv pl2 c st (pushed us (self ∷ st)) (pushed us (self ∷ [])) z2 fin s.line no_block
+        (λ given. with_block t (with_loop l frame) given (send_with files top b (with_loop l frame) s.line self x ks us false)) e2 high (let m1 = pushed_length us (self ∷ st) in omega (arith, high.tall)) (pushed_over us (self ∷ []) st) b2
+        (λ g q3 z3 stk3 extra3 pl3 e3 over3 only taken a3. call_ends t l seq frame out h q3 (own l s) (Send x (count ts) ks flags) pl3 c st z3 fin stk3 extra3 e3 high.tall over3
+        (λ j. sent files b seqs bodies j frame (own l s) self x ks us false g z3)
+        (send_acts seq frame q3 stk3 z3 (own l s) x (count ts) ks flags (is_with v) false g us self st valued bare (omega arith) taken)
+        _ (send_means t v l frame sd.of_first ft s.line self x ks us false g z3 only) a3) a2) (subst (λ y. A seq frame c fin st out (y w)) (other.1 go) k))
