@@ -1,6 +1,6 @@
 -- The code of a tree does what the tree means.
 use Rattle.std.proofs.Common.{zero, ◌≡◌, ℕ, suc, pred, ◌+◌, ◌-◌, ◌≤◌, ◌<◌, ◌⊎◌, inl, inr, Bool, true, false, not, cond, refl, sym, subst, ap, ◌∙◌, arith, List, [], ◌∷◌, ◌++◌, length, Option, Some, None, length-append, append_assoc}
-use Rattle.std.specs.Prelude.{slice_get, nat_le, codes, map, ◌*◌, pos, nat_eq}
+use Rattle.std.specs.Prelude.{⊤, slice_get, nat_le, codes, map, ◌*◌, pos, nat_eq}
 use Rattle.bs_outside.specs.Paths.{parent_of}
 use Rattle.ruby_tree.specs.Names.{Bytes}
 use Rattle.ruby_tree.specs.Tree.{SourcePosition, Goal, to_local, to_instance, to_global, to_constant, Tree, at, Form, nil_value, true_value, false_value, integer, symbol, text, self_value, file_name, folder_name, line_number, local, instance, global, joined, array, hash, range, constant_path, assign, assign_all, assign_attribute, assign_index, operate_attribute, or_attribute, and_attribute, operate_index, or_index, and_index, send, safe_send, yield, super, bare_super, bare_raise, statements, both, either, negated, if_else, while_loop, case_of, case_tests, return_with, break_with, next_with, retry, rescue, ensure, rescue_sequence, ensure_sequence, method, class, module_named, body, Trees, no_more, more, Other, without, with, Pairs, no_pair, pair, Pieces, no_piece, plain_piece, code_piece, Whens, no_when, when, Rescues, no_clause, clause, Params, no_param, required, optional, rest_param, block_param}
@@ -820,6 +820,188 @@ module _ (files : Files) (b : Tree → Frame → Run) (seqs : ℕ → Routine) (
         (known.trees l.sight.scopes frame (with_loop l frame) refl e) (known.trees l.sight.scopes frame (with_loop (looped l) frame) refl a) (da _ h (p + 1) pl.2.0.0) (λ c1 st1 w2 high1. de out (h + 0) (pn + 1) pl.2.1.2.0 c1 st1 w2 (plus_zero _ _ _ _ high1)) c st high
         top top w (omega arith) (omega arith) le k)
 
+  abbrev TS : Where → Routine → Frame → Trees → Type 0
+  TS l seq frame no_more = ⊤
+  TS l seq frame (more t ts) = T l seq frame t × TS l seq frame ts
+
+  abbrev TO : Where → Routine → Frame → Other → Type 0
+  TO l seq frame without = ⊤
+  TO l seq frame (with t) = T l seq frame t
+
+  abbrev TP : Where → Routine → Frame → Pairs → Type 0
+  TP l seq frame no_pair = ⊤
+  TP l seq frame (pair t u ps) = T l seq frame t × T l seq frame u × TP l seq frame ps
+
+  abbrev TC : Where → Routine → Frame → Rescues → Type 0
+  TC l seq frame no_clause = ⊤
+  TC l seq frame (clause ts x t cs) = TS l seq frame ts × NameHeld l.sight x × T l seq frame t × TC l seq frame cs
+
+  rest_does : (ts : Trees) (l : Where) (seq : Routine) (frame : Frame) (out : List CatchRow) (h p : ℕ) (line : ℕ) → StandsIn l frame → TS l seq frame ts → Placed seq.body.code seq.body.rows out h p (rest_shape l line ts) → (c : Outcome) (st : List Value) (w : World) (v : Value) → High l.clause frame.handled h st → G l frame w
+      → A seq frame c (finish p (rest_shape l line ts)) st out (run_all files top b ts (with_loop l frame) v w) → R seq frame c p (v ∷ st) w
+  rest_does no_more l seq frame out h p line sd fs pl c st w v high le k = k
+  rest_does (more t ts) l seq frame out h p line sd fs pl c st w v high le k =
+      let p1 = finish (p + 1) (shape l t) in
+      on seq frame c p (v ∷ st) w line Pop (p + 1) st w pl.0 refl
+      (tree_then seq frame out (h + 0) (p + 1) p1 (finish p1 (rest_shape l line ts)) l t (fs.0 out (h + 0) (p + 1) pl.2.0) c st [] st w (run_all files top b ts (with_loop l frame)) high (omega arith) refl le
+      (λ u z b1 k1. rest_does ts l seq frame out h p1 line sd fs.1 pl.2.1 c st z u high b1 k1) k)
+
+  all_does : (ts : Trees) (l : Where) (seq : Routine) (frame : Frame) (out : List CatchRow) (h p : ℕ) (line : ℕ) → StandsIn l frame → TS l seq frame ts → Placed seq.body.code seq.body.rows out h p (all_shape l line ts) → D l seq frame out h p (finish p (all_shape l line ts)) (run_all files top b ts (with_loop l frame) nil)
+  all_does no_more l seq frame out h p line sd fs pl = λ c st w high le k. on seq frame c p st w line PutNil (p + 1) (nil ∷ st) w pl.0 refl k
+  all_does (more t ts) l seq frame out h p line sd fs pl = λ c st w high le k.
+      let p1 = finish p (shape l t) in
+      tree_then seq frame out (h + 0) p p1 (finish p1 (rest_shape l line ts)) l t (fs.0 out (h + 0) p pl.0) c st [] st w (run_all files top b ts (with_loop l frame)) high (omega arith) refl le
+      (λ v z b1 k1. rest_does ts l seq frame out h p1 line sd fs.1 pl.1 c st z v high b1 k1) k
+
+  other_does : (o : Other) (l : Where) (seq : Routine) (frame : Frame) (out : List CatchRow) (h p : ℕ) → StandsIn l frame → TO l seq frame o → Placed seq.body.code seq.body.rows out (h + 0) p (other_shape l o) → D l seq frame out h p (finish p (other_shape l o)) (run_other files top b o (with_loop l frame))
+  other_does without l seq frame out h p sd fs pl = λ c st w high le k. on seq frame c p st w l.first PutNil (p + 1) (nil ∷ st) w pl.0 refl k
+  other_does (with t) l seq frame out h p sd fs pl = λ c st w high le k. fs out (h + 0) p pl c st w (plus_zero _ _ _ _ high) le k
+
+  last_does : (o : Other) (l : Where) (seq : Routine) (frame : Frame) (out : List CatchRow) (h p : ℕ) (line : ℕ) → StandsIn l frame → TO l seq frame o → Placed seq.body.code seq.body.rows out h p (last_shape l line o) → (c : Outcome) (st : List Value) → High l.clause frame.handled h st → (v : Value) (z : World) → G l frame z
+      → A seq frame c (finish p (last_shape l line o)) st out (run_last files top b o (with_loop l frame) v z) → R seq frame c p (v ∷ st) z
+  last_does without l seq frame out h p line sd fs pl c st high v z le k = k
+  last_does (with t) l seq frame out h p line sd fs pl c st high v z le k =
+      on seq frame c p (v ∷ st) z line Pop (p + 1) st z pl.0 refl (fs out (h + 0) (p + 1) pl.2.0 c st z (plus_zero _ _ _ _ high) le k)
+
+  receiver_does : (o : Other) (l : Where) (seq : Routine) (frame : Frame) (out : List CatchRow) (h p : ℕ) (line : ℕ) (s : Shape) → StandsIn l frame → TO l seq frame o → Placed seq.body.code seq.body.rows out h p (receiver_shape l o line s)
+      → (c : Outcome) (st : List Value) (w : World) (fin : ℕ) (next : Value → Run) → finish p (receiver_shape l o line s) ≡ fin → High l.clause frame.handled h st → G l frame w
+      → ((v : Value) (q : ℕ) (z : World) → Placed seq.body.code seq.body.rows out h q s → finish q s ≡ fin → G l frame z → A seq frame c fin st out (next v z) → R seq frame c q (v ∷ st) z)
+      → A seq frame c fin st out (run_receiver files top b o (with_loop l frame) next w) → R seq frame c p st w
+  receiver_does without l seq frame out h p line s sd fs pl c st w fin next e high le g k = on seq frame c p st w line PutSelf (p + 1) (frame.self_value ∷ st) w pl.0 refl (g frame.self_value (p + 1) w pl.2 e le k)
+  receiver_does (with t) l seq frame out h p line s sd fs pl c st w fin next e high le g k =
+      let p1 = finish p (shape l t) in
+      tree_then seq frame out (h + 0) p p1 fin l t (fs out (h + 0) p pl.0) c st [] st w next high (omega arith) refl le (λ v z b1 k1. g v p1 z pl.1 e b1 k1) k
+
+  args_does : (ts : Trees) (l : Where) (seq : Routine) (frame : Frame) (out : List CatchRow) (h p : ℕ) (d : ℕ) (s : Shape) → StandsIn l frame → TS l seq frame ts → Placed seq.body.code seq.body.rows out h p (args_shape l d ts s)
+      → (c : Outcome) (st : List Value) (under : List Value) (w : World) (fin : ℕ) (vs : List Value) (next : List Value → Run) → finish p (args_shape l d ts s) ≡ fin → length vs + length under ≡ d → High l.clause frame.handled h st → G l frame w
+      → ((us : List Value) (q : ℕ) (z : World) → Placed seq.body.code seq.body.rows out h q s → finish q s ≡ fin → length us ≡ length vs + count ts → G l frame z → A seq frame c fin st out (next us z) → R seq frame c q (pushed us (under ++ st)) z)
+      → A seq frame c fin st out (run_trees files top b ts (with_loop l frame) vs next w) → R seq frame c p (pushed vs (under ++ st)) w
+  args_does no_more l seq frame out h p d s sd fs pl c st under w fin vs next e n high le g k = g vs p w pl e (omega arith) le k
+  args_does (more t ts) l seq frame out h p d s sd fs pl c st under w fin vs next e n high le g k =
+      let p1 = finish p (shape l t) in
+      tree_then seq frame out (h + d) p p1 fin l t (fs.0 out (h + d) p pl.0) c (pushed vs (under ++ st)) (pushed vs under) st w (λ v. run_trees files top b ts (with_loop l frame) (vs ++ v ∷ []) next)
+      high (let m = pushed_length vs (under ++ st) in let m1 = length-append under st in omega (arith, high.tall)) (pushed_over vs under st) le
+      (λ v z b1 k1. let m = length-append vs (v ∷ []) in
+      subst (λ y. R seq frame c p1 y z) (pushed_last vs v (under ++ st)) (args_does ts l seq frame out h p1 (suc d) s sd fs.1 pl.1 c st under z fin (vs ++ v ∷ []) next e (omega arith) high b1 (λ us q z1 pl1 e1 n1 b2 k2. g us q z1 pl1 e1 (omega arith) b2 k2) k1)) k
+
+  value_does : (v : Other) (l : Where) (seq : Routine) (frame : Frame) (out : List CatchRow) (h p : ℕ) (d : ℕ) (s : Shape) → StandsIn l frame → TO l seq frame v → Placed seq.body.code seq.body.rows out h p (value_shape l d v s)
+      → (c : Outcome) (st stk over : List Value) (w : World) (fin n : ℕ) (own_block : Given) (next : Given → Run) → finish p (value_shape l d v s) ≡ fin → High l.clause frame.handled h st → length stk ≡ h + d → stk ≡ over ++ st → G l frame w
+      → ((g : Option Value) (q : ℕ) (z : World) (stk1 over1 : List Value) → Placed seq.body.code seq.body.rows out h q s → finish q s ≡ fin → stk1 ≡ over1 ++ st → (is_with v ≡ false → g ≡ None) → ((go : Option Value → List Value → Step) → with_value (is_with v) stk1 go ≡ go g stk)
+      → A seq frame c fin st out (value_given (with_loop l frame) n own_block g next z) → R seq frame c q stk1 z)
+      → A seq frame c fin st out (run_given_value files top b v (with_loop l frame) n own_block next w) → R seq frame c p stk w
+  value_does without l seq frame out h p d s sd fs pl c st stk over w fin n own_block next e high tall same le g k = g None p w stk over pl e same (λ y. refl) (λ go. refl) k
+  value_does (with u) l seq frame out h p d s sd fs pl c st stk over w fin n own_block next e high tall same le g k =
+      let p1 = finish p (shape l u) in
+      tree_then seq frame out (h + d) p p1 fin l u (fs out (h + d) p pl.0) c stk over st w (λ v. given_value (with_loop l frame) n v next) high tall same le
+      (λ v z b1 k1. g (Some v) p1 z (v ∷ stk) (v ∷ over) pl.1 e (ap (λ y. v ∷ y) same) (λ y. absurd (cc y)) (λ go. refl) k1) k
+
+  values_does : (ts : Trees) (l : Where) (seq : Routine) (frame : Frame) (out : List CatchRow) (h p : ℕ) (line : ℕ) (s : Shape) → StandsIn l frame → TS l seq frame ts → Placed seq.body.code seq.body.rows out h p (values_shape l ts line s)
+      → (c : Outcome) (st : List Value) (w : World) (fin : ℕ) (next : Value → Run) → finish p (values_shape l ts line s) ≡ fin → High l.clause frame.handled h st → G l frame w
+      → ((v : Value) (q : ℕ) (z : World) → Placed seq.body.code seq.body.rows out h q s → finish q s ≡ fin → G l frame z → A seq frame c fin st out (next v z) → R seq frame c q (v ∷ st) z)
+      → A seq frame c fin st out (run_trees files top b ts (with_loop l frame) [] (λ vs. of_values vs next) w) → R seq frame c p st w
+  values_does no_more l seq frame out h p line s sd fs pl c st w fin next e high le g k = on seq frame c p st w line PutNil (p + 1) (nil ∷ st) w pl.0 refl (g nil (p + 1) w pl.2 e le k)
+  values_does (more t no_more) l seq frame out h p line s sd fs pl c st w fin next e high le g k =
+      let p1 = finish p (shape l t) in
+      tree_then seq frame out (h + 0) p p1 fin l t (fs.0 out (h + 0) p pl.0) c st [] st w next high (omega arith) refl le (λ v z b1 k1. g v p1 z pl.1 e b1 k1) k
+  values_does (more t (more u us)) l seq frame out h p line s sd fs pl c st w fin next e high le g k =
+      let p1 = finish p (shape l t) in let p2 = finish p1 (shape l u) in
+      tree_then seq frame out (h + 0) p p1 fin l t (fs.0 out (h + 0) p pl.0) c st [] st w (λ v. then (run_it l frame u) (λ y. run_trees files top b us (with_loop l frame) (v ∷ (y ∷ [])) (λ vs. of_values vs next))) high (omega arith) refl le
+      (λ v z b1 k1. tree_then seq frame out (h + 1) p1 p2 fin l u (fs.1.0 out (h + 1) p1 pl.1.0) c (v ∷ st) (v ∷ []) st z (λ y. run_trees files top b us (with_loop l frame) (v ∷ (y ∷ [])) (λ vs. of_values vs next)) high (omega arith) refl b1
+      (λ y z1 b2 k2. args_does us l seq frame out h p2 2 _ sd fs.1.1 pl.1.1 c st [] z1 fin (v ∷ (y ∷ [])) (λ vs. of_values vs next) e refl high b2
+      (λ vs q z2 pl1 e1 n1 b3 k3. several l seq frame out h q (suc (suc (count us))) line s c st vs z2 fin next pl1 e1 (omega arith) b3 (subst (λ o. A seq frame c fin st out (o z2)) (many_values vs next (omega arith)) k3) g) k2) k1) k
+
+  pairs_does : (ps : Pairs) (l : Where) (seq : Routine) (frame : Frame) (out : List CatchRow) (h p : ℕ) (d : ℕ) (s : Shape) → StandsIn l frame → TP l seq frame ps → Placed seq.body.code seq.body.rows out h p (pairs_shape l d ps s)
+      → (c : Outcome) (st : List Value) (w : World) (fin : ℕ) (qs : List (Value × Value)) (next : List (Value × Value) → Run) → finish p (pairs_shape l d ps s) ≡ fin → length qs + length qs ≡ d → High l.clause frame.handled h st → G l frame w
+      → ((rs : List (Value × Value)) (q : ℕ) (z : World) → Placed seq.body.code seq.body.rows out h q s → finish q s ≡ fin → length rs ≡ length qs + count_pairs ps → G l frame z → A seq frame c fin st out (next rs z) → R seq frame c q (pushed (flat rs) st) z)
+      → A seq frame c fin st out (run_pairs files top b ps (with_loop l frame) qs next w) → R seq frame c p (pushed (flat qs) st) w
+  pairs_does no_pair l seq frame out h p d s sd fs pl c st w fin qs next e n high le g k = g qs p w pl e (omega arith) le k
+  pairs_does (pair t u ps) l seq frame out h p d s sd fs pl c st w fin qs next e n high le g k =
+      let p1 = finish p (shape l t) in let p2 = finish p1 (shape l u) in
+      tree_then seq frame out (h + d) p p1 fin l t (fs.0 out (h + d) p pl.0) c (pushed (flat qs) st) (pushed (flat qs) []) st w (λ x. then (run_it l frame u) (λ v. run_pairs files top b ps (with_loop l frame) (qs ++ (x, v) ∷ []) next))
+      high (let m = pushed_length (flat qs) st in omega (arith, high.tall, flat_length qs)) (pushed_over (flat qs) [] st) le
+      (λ x z b1 k1. tree_then seq frame out (h + suc d) p1 p2 fin l u (fs.1 out (h + suc d) p1 pl.1.0) c (x ∷ pushed (flat qs) st) (x ∷ pushed (flat qs) []) st z (λ v. run_pairs files top b ps (with_loop l frame) (qs ++ (x, v) ∷ []) next)
+      high (let m = pushed_length (flat qs) st in omega (arith, high.tall, flat_length qs)) (ap (λ y. x ∷ y) (pushed_over (flat qs) [] st)) b1
+      (λ v z1 b2 k2. let m = length-append qs ((x, v) ∷ []) in
+      subst (λ y. R seq frame c p2 y z1) (flat_last qs x v st) (pairs_does ps l seq frame out h p2 (suc (suc d)) s sd fs.2 pl.1.1 c st z1 fin (qs ++ (x, v) ∷ []) next e (omega arith) high b2 (λ rs q z2 pl1 e1 n1 b3 k3. g rs q z2 pl1 e1 (omega arith) b3 k3) k2)) k1) k
+
+  -- the call of a safe send, behind its receiver
+  safe_does : (ts : Trees) (v t : Other) (l : Where) (s : SourcePosition) (seq : Routine) (frame : Frame) (out : List CatchRow) (h p : ℕ) (ks : List ℕ) (x : Bytes) (flags : ℕ) → StandsIn l frame → TS l seq frame ts → TO l seq frame v → FindsBlock seqs bodies l t v
+      → Placed seq.body.code seq.body.rows out h p (ahead (start l s) BranchNil (size (args_shape l 1 ts (value_shape l (suc (count ts)) v (with_literal l (own l s) (Send x (count ts) ks flags) t)))) (args_shape l 1 ts (value_shape l (suc (count ts)) v (with_literal l (own l s) (Send x (count ts) ks flags) t))))
+      → is_valued flags ≡ is_with v → is_bare flags ≡ false
+      → (c : Outcome) (st : List Value) (self : Value) (w : World) (fin : ℕ) → finish (p + 1) (args_shape l 1 ts (value_shape l (suc (count ts)) v (with_literal l (own l s) (Send x (count ts) ks flags) t))) ≡ fin → High l.clause frame.handled h st → G l frame w
+      → (self ≡ nil) ⊎ ((is_nil self ≡ false) × ((go : Run) → unless_nil self go ≡ go))
+      → A seq frame c fin st out (unless_nil self (run_trees files top b ts (with_loop l frame) [] (λ vs. run_given_value files top b v (with_loop l frame) s.line no_block (λ given. with_block t (with_loop l frame) given (send_with files top b (with_loop l frame) s.line self x ks vs false)))) w) → R seq frame c p (self ∷ (self ∷ st)) w
+  safe_does ts v t l s seq frame out h p ks x flags sd fts fv ft pl valued bare c st self w fin e high le (inl same) k =
+      let rest = args_shape l 1 ts (value_shape l (suc (count ts)) v (with_literal l (own l s) (Send x (count ts) ks flags) t)) in let g = finish_size rest (p + 1) in
+      let go : Run = run_trees files top b ts (with_loop l frame) [] (λ vs. run_given_value files top b v (with_loop l frame) s.line no_block (λ given. with_block t (with_loop l frame) given (send_with files top b (with_loop l frame) s.line self x ks vs false))) in
+      on seq frame c p (self ∷ (self ∷ st)) w (start l s) (BranchNil (p + 1 + size rest)) fin (self ∷ st) w pl.0 (branch_over (is_nil self) p (size rest) fin (self ∷ st) w (ap is_nil same) (omega arith))
+      (subst (λ y. R seq frame c fin (y ∷ st) w) (sym same) (subst (λ y. A seq frame c fin st out (unless_nil y go w)) same k))
+  safe_does ts v t l s seq frame out h p ks x flags sd fts fv ft pl valued bare c st self w fin e high le (inr other) k =
+      let rest = args_shape l 1 ts (value_shape l (suc (count ts)) v (with_literal l (own l s) (Send x (count ts) ks flags) t)) in
+      let go : Run = run_trees files top b ts (with_loop l frame) [] (λ vs. run_given_value files top b v (with_loop l frame) s.line no_block (λ given. with_block t (with_loop l frame) given (send_with files top b (with_loop l frame) s.line self x ks vs false))) in
+      on seq frame c p (self ∷ (self ∷ st)) w (start l s) (BranchNil (p + 1 + size rest)) (p + 1) (self ∷ st) w pl.0 (branch_on (is_nil self) p (p + 1 + size rest) (self ∷ st) w other.0)
+      (args_does ts l seq frame out h (p + 1) 1 _ sd fts pl.2 c st (self ∷ []) w fin []
+      (λ vs. run_given_value files top b v (with_loop l frame) s.line no_block (λ given. with_block t (with_loop l frame) given (send_with files top b (with_loop l frame) s.line self x ks vs false)))
+      e refl high le
+      (λ us q2 z2 pl2 e2 n2 b2 a2. value_does v l seq frame out h q2 (suc (count ts)) _ sd fv pl2 c st (pushed us (self ∷ st)) (pushed us (self ∷ [])) z2 fin s.line no_block
+      (λ given. with_block t (with_loop l frame) given (send_with files top b (with_loop l frame) s.line self x ks us false)) e2 high (let m1 = pushed_length us (self ∷ st) in omega (arith, high.tall)) (pushed_over us (self ∷ []) st) b2
+      (λ g q3 z3 stk3 extra3 pl3 e3 over3 only taken a3. call_ends t l seq frame out h q3 (own l s) (Send x (count ts) ks flags) pl3 c st z3 fin stk3 extra3 e3 high.tall over3
+      (λ j. sent files b seqs bodies j frame (own l s) self x ks us false g z3)
+      (send_acts seq frame q3 stk3 z3 (own l s) x (count ts) ks flags (is_with v) false g us self st valued bare (omega arith) taken)
+      _ (send_means t v l frame sd.of_first ft s.line self x ks us false g z3 only) a3) a2) (subst (λ y. A seq frame c fin st out (y w)) (other.1 go) k))
+
+  -- the tests of the classes of a clause, behind the first
+  classes_does : (ts : Trees) (l : Where) (seq : Routine) (frame : Frame) (p n0 far : ℕ) (s : Shape) → StandsIn l frame → TS l seq frame ts → Placed seq.body.code seq.body.rows [] 1 p (classes_shape l ts (line_at l n0) far s)
+      → (c : Outcome) (w : World) (hit rest : Run) (hit_place : ℕ) → p + size (classes_shape l ts (line_at l n0) 0 done) + far ≡ hit_place → G l frame w
+      → ((z : World) → G l frame z → c ≡ hit z → R seq frame c hit_place (frame.handled ∷ []) z)
+      → ((q : ℕ) (z : World) → Placed seq.body.code seq.body.rows [] 1 q s → q + far ≡ hit_place → G l frame z → c ≡ rest z → R seq frame c q (frame.handled ∷ []) z)
+      → c ≡ run_classes files top b ts (with_loop l frame) n0 hit rest w → R seq frame c p (frame.handled ∷ []) w
+  classes_does no_more l seq frame p n0 far s sd fs pl c w hit rest hit_place over le to_hit to_rest e = to_rest p w pl (omega arith) le e
+  classes_does (more t ts) l seq frame p n0 far s sd fs pl c w hit rest hit_place over le to_hit to_rest e =
+      let line = line_at l n0 in let q = finish (p + 1) (shape l t) in let g = finish_size (shape l t) (p + 1) in let n = size (classes_shape l ts line 0 done) + far in
+      on seq frame c p (frame.handled ∷ []) w line Dup (p + 1) (frame.handled ∷ (frame.handled ∷ [])) w pl.0 refl
+      (fs.0 [] (1 + 1) (p + 1) pl.2.0 c (frame.handled ∷ (frame.handled ∷ [])) w (record { tall = refl; bottom = λ y. refl }) le
+      (whole_then files b seqs bodies seq frame c q (frame.handled ∷ (frame.handled ∷ [])) (run_it l frame t w) (λ v. match_class (with_loop l frame) n0 v hit (run_classes files top b ts (with_loop l frame) n0 hit rest)) e
+      (λ v z eo e1. let b1 : G l frame z = subst (λ o. G l frame (world_of o)) eo (keeps l frame t w le) in
+      match_does l seq frame c sd.of_first q n n0 hit_place v z hit (run_classes files top b ts (with_loop l frame) n0 hit rest) pl.2.1.0 pl.2.1.1 pl.2.1.2.0 (omega arith) (to_hit z b1)
+      (λ e2. classes_does ts l seq frame (q + 1 + 1) n0 far s sd fs.1 pl.2.1.2.2 c z hit rest hit_place (omega arith) b1 to_hit to_rest e2) e1)))
+
+  clause_does : (ts : Trees) (l : Where) (seq : Routine) (frame : Frame) (p n0 far : ℕ) (s : Shape) → StandsIn l frame → TS l seq frame ts → Placed seq.body.code seq.body.rows [] 1 p (clause_shape l ts (line_at l n0) far s)
+      → (c : Outcome) (w : World) (hit rest : Run) (hit_place : ℕ) → p + size (clause_shape l ts (line_at l n0) 0 done) + far ≡ hit_place → G l frame w
+      → ((z : World) → G l frame z → c ≡ hit z → R seq frame c hit_place (frame.handled ∷ []) z)
+      → ((q : ℕ) (z : World) → Placed seq.body.code seq.body.rows [] 1 q s → q + far ≡ hit_place → G l frame z → c ≡ rest z → R seq frame c q (frame.handled ∷ []) z)
+      → c ≡ run_clause files top b ts (with_loop l frame) n0 hit rest w → R seq frame c p (frame.handled ∷ []) w
+  clause_does no_more l seq frame p n0 far s sd fs pl c w hit rest hit_place over le to_hit to_rest e =
+      let xs : List Bytes = codes "StandardError" ∷ [] in let line = line_at l n0 in
+      let o : Outcome = path_from frame l.first xs (object object_class) w in
+      let same : path_from (with_loop l frame) 0 xs (object object_class) w ≡ o = ap (λ f. f w) (path_same (with_loop l frame) frame 0 l.first refl (own_lines l frame sd.of_first 0) xs (object object_class)) in
+      on seq frame c p (frame.handled ∷ []) w line Dup (p + 1) (frame.handled ∷ (frame.handled ∷ [])) w pl.0 refl
+      (answers files b seqs bodies seq frame c (p + 1) (p + 1 + 1) (frame.handled ∷ (frame.handled ∷ [])) (frame.handled ∷ (frame.handled ∷ [])) [] w [] o (here files b seqs bodies seq frame c (p + 1) (frame.handled ∷ (frame.handled ∷ [])) w l.first (OptGetConstantPath 1 xs) pl.2.0) pl.2.1 refl
+      (whole_then files b seqs bodies seq frame c (p + 1 + 1) (frame.handled ∷ (frame.handled ∷ [])) o (λ v. match_class (with_loop l frame) n0 v hit rest) (subst (λ y. c ≡ then_do y (λ v. match_class (with_loop l frame) n0 v hit rest)) same e)
+      (λ v z eo e1. let b1 : G l frame z = subst (λ y. G l frame (world_of y)) eo (known.paths l.sight.scopes frame frame refl l.first xs (object object_class) top w (omega arith) le) in
+      match_does l seq frame c sd.of_first (p + 1 + 1) far n0 hit_place v z hit rest pl.2.2.0 pl.2.2.1 pl.2.2.2.0 (omega arith) (to_hit z b1)
+      (λ e2. to_rest (p + 1 + 1 + 1 + 1) z pl.2.2.2.2 (omega arith) b1 e2) e1)))
+  clause_does (more t ts) l seq frame p n0 far s sd fs pl c w hit rest hit_place over le to_hit to_rest e =
+      let line = line_at l n0 in let q = finish (p + 1) (shape l t) in let g = finish_size (shape l t) (p + 1) in let n = size (classes_shape l ts line 0 done) + far in
+      on seq frame c p (frame.handled ∷ []) w line Dup (p + 1) (frame.handled ∷ (frame.handled ∷ [])) w pl.0 refl
+      (fs.0 [] (1 + 1) (p + 1) pl.2.0 c (frame.handled ∷ (frame.handled ∷ [])) w (record { tall = refl; bottom = λ y. refl }) le
+      (whole_then files b seqs bodies seq frame c q (frame.handled ∷ (frame.handled ∷ [])) (run_it l frame t w) (λ v. match_class (with_loop l frame) n0 v hit (run_classes files top b ts (with_loop l frame) n0 hit rest)) e
+      (λ v z eo e1. let b1 : G l frame z = subst (λ o. G l frame (world_of o)) eo (keeps l frame t w le) in
+      match_does l seq frame c sd.of_first q n n0 hit_place v z hit (run_classes files top b ts (with_loop l frame) n0 hit rest) pl.2.1.0 pl.2.1.1 pl.2.1.2.0 (omega arith) (to_hit z b1)
+      (λ e2. classes_does ts l seq frame (q + 1 + 1) n0 far s sd fs.1 pl.2.1.2.2 c z hit rest hit_place (omega arith) b1 to_hit to_rest e2) e1)))
+
+  clauses_does : (cs : Rescues) (l : Where) (seq : Routine) (frame : Frame) (p n0 far : ℕ) (s : Shape) (body_place : ℕ) → StandsIn l frame → TC l seq frame cs → Placed seq.body.code seq.body.rows [] 1 p (clauses_shape l cs (line_at l n0) far s)
+      → Placed seq.body.code seq.body.rows [] 1 body_place (bodies_shape l cs (line_at l n0)) → (c : Outcome) (w : World) → p + size (clauses_shape l cs (line_at l n0) 0 done) + 1 + far ≡ body_place → G l frame w
+      → ((q : ℕ) (z : World) → Placed seq.body.code seq.body.rows [] 1 q s → c ≡ Raise frame.handled z → R seq frame c q (frame.handled ∷ []) z)
+      → c ≡ run_clauses files top b cs (with_loop l frame) n0 w → R seq frame c p (frame.handled ∷ []) w
+  clauses_does no_clause l seq frame p n0 far s body_place sd fs pl its_bodies c w over le to_end e = to_end p w pl e
+  clauses_does (clause ts x t cs) l seq frame p n0 far s body_place sd fs pl its_bodies c w over le to_end e =
+      let line = line_at l n0 in
+      let n = size (named l line x (part 0 (shape l t) (op line Leave done))) in let g = clauses_step ts x t cs l line in
+      clause_does ts l seq frame p n0 (size (clauses_shape l cs line 0 done) + 1 + far) (clauses_shape l cs line (far + n) s) sd fs.0 pl c w
+      (λ z. run_it l frame t (set_exception (with_loop l frame) x z)) (run_clauses files top b cs (with_loop l frame) n0) body_place (omega arith) le
+      (λ z b1 e1. hit_ends l seq frame c sd.of_first x line body_place (shape l t) (bodies_shape l cs line) (run_it l frame t) z its_bodies (λ q pl1. fs.2 [] (1 + 0) q pl1) fs.1 b1 e1)
+      (λ q z pl1 over1 b1 e1. clauses_does cs l seq frame q n0 (far + n) s (body_place + n) sd fs.3 pl1 (named_tail seq.body.code seq.body.rows [] 1 x l line body_place (shape l t) (bodies_shape l cs line) its_bodies) c z (omega arith) b1 to_end e1) e
+
   mutual
     pub tree_does : (t : Tree) (l : Where) (seq : Routine) (frame : Frame) (out : List CatchRow) (h p : ℕ) → StandsIn l frame → Finds seqs bodies l t → Placed seq.body.code seq.body.rows out h p (shape l t) → D l seq frame out h p (finish p (shape l t)) (run_it l frame t)
     tree_does (at s f) l seq frame out h p sd fs pl = form_does f l s seq frame out h p sd fs pl
@@ -844,11 +1026,11 @@ module _ (files : Files) (b : Tree → Frame → Run) (seqs : ℕ → Routine) (
     form_does (global x) l s seq frame out h p sd fs pl = λ c st w high le k. on seq frame c p st w (own l s) (GetGlobal x) (p + 1) (read_global x w ∷ st) w pl.0 refl k
     form_does (joined ps) l s seq frame out h p sd fs pl = λ c st w high le k. ?
     form_does (array ts ks) l s seq frame out h p sd fs pl = λ c st w high le k.
-        args_does ts l seq frame out h p 0 _ sd fs pl c st [] w (finish p (form_shape l (array ts ks) s)) [] (λ vs. reading (spread ks vs) (λ us. make_array us Done)) refl refl high le
+        args_does ts l seq frame out h p 0 _ sd (trees_all ts l seq frame sd fs) pl c st [] w (finish p (form_shape l (array ts ks) s)) [] (λ vs. reading (spread ks vs) (λ us. make_array us Done)) refl refl high le
         (λ vs q z pl1 e1 n1 b1 k1. answers files b seqs bodies seq frame c q (q + 1) (pushed vs st) st (pushed vs []) z out (reading (spread ks vs) (λ us. make_array us Done) z)
         (here files b seqs bodies seq frame c q (pushed vs st) z (own l s) (NewArray (count ts) ks) pl1.0 ∙ args_off vs st (count ts) _ (omega arith)) pl1.1 (pushed_over vs [] st) (subst (λ y. A seq frame c y st out (reading (spread ks vs) (λ us. make_array us Done) z)) (sym e1) k1)) k
     form_does (hash ps) l s seq frame out h p sd fs pl = λ c st w high le k.
-        pairs_does ps l seq frame out h p 0 _ sd fs pl c st w (finish p (form_shape l (hash ps) s)) [] make_hash refl refl high le
+        pairs_does ps l seq frame out h p 0 _ sd (pairs_all ps l seq frame sd fs) pl c st w (finish p (form_shape l (hash ps) s)) [] make_hash refl refl high le
         (λ qs q z pl1 e1 n1 b1 k1. answered seq frame c q (q + 1) (pushed (flat qs) st) st (pushed (flat qs) []) z out (own l s) (NewHash (2 * count_pairs ps)) (make_hash (pairs_of (flat qs)) z) (make_hash qs z) pl1.0 pl1.1
         (args_off (flat qs) st (2 * count_pairs ps) _ (omega (arith, flat_length qs))) (pushed_over (flat qs) [] st) (ap (λ y. make_hash y z) (sym (flat_pairs qs))) (subst (λ y. A seq frame c y st out (make_hash qs z)) (sym e1) k1)) k
     form_does (range a e x) l s seq frame out h p sd fs pl = form_range_ends a e x l s seq frame out h p sd (λ o1 h1 p1 pl1. tree_does a l seq frame o1 h1 p1 sd fs.0 pl1) (λ o1 h1 p1 pl1. tree_does e l seq frame o1 h1 p1 sd fs.1 pl1) fs pl
@@ -875,13 +1057,13 @@ module _ (files : Files) (b : Tree → Frame → Run) (seqs : ℕ → Routine) (
     form_does (and_index a i t) l s seq frame out h p sd fs pl = form_and_index_ends a i t l s seq frame out h p sd (λ o1 h1 p1 pl1. tree_does a l seq frame o1 h1 p1 sd fs.0 pl1) (λ o1 h1 p1 pl1. tree_does i l seq frame o1 h1 p1 sd fs.1 pl1) (λ o1 h1 p1 pl1. tree_does t l seq frame o1 h1 p1 sd fs.2 pl1) fs pl
     form_does (send o ts ks v x bare t) l s seq frame out h p sd fs pl = λ c st w high le k.
         let fin = finish p (form_shape l (send o ts ks v x bare t) s) in let flags = receiver_flag o + value_flag v + bare_flag bare in
-        receiver_does o l seq frame out h p (start l s) _ sd fs.0 pl c st w fin
+        receiver_does o l seq frame out h p (start l s) _ sd (other_all o l seq frame sd fs.0) pl c st w fin
         (λ self. run_trees files top b ts (with_loop l frame) [] (λ vs. run_given_value files top b v (with_loop l frame) s.line no_block (λ given. with_block t (with_loop l frame) given (send_with files top b (with_loop l frame) s.line self x ks vs bare))))
         refl high le
-        (λ self q z pl1 e1 b1 a1. args_does ts l seq frame out h q 1 _ sd fs.1 pl1 c st (self ∷ []) z fin []
+        (λ self q z pl1 e1 b1 a1. args_does ts l seq frame out h q 1 _ sd (trees_all ts l seq frame sd fs.1) pl1 c st (self ∷ []) z fin []
         (λ vs. run_given_value files top b v (with_loop l frame) s.line no_block (λ given. with_block t (with_loop l frame) given (send_with files top b (with_loop l frame) s.line self x ks vs bare)))
         e1 refl high b1
-        (λ us q2 z2 pl2 e2 n2 b2 a2. value_does v l seq frame out h q2 (suc (count ts)) _ sd fs.2 pl2 c st (pushed us (self ∷ st)) (pushed us (self ∷ [])) z2 fin s.line no_block
+        (λ us q2 z2 pl2 e2 n2 b2 a2. value_does v l seq frame out h q2 (suc (count ts)) _ sd (other_all v l seq frame sd fs.2) pl2 c st (pushed us (self ∷ st)) (pushed us (self ∷ [])) z2 fin s.line no_block
         (λ given. with_block t (with_loop l frame) given (send_with files top b (with_loop l frame) s.line self x ks us bare)) e2 high (let m1 = pushed_length us (self ∷ st) in omega arith) (pushed_over us (self ∷ []) st) b2
         (λ g q3 z3 stk3 extra3 pl3 e3 over3 only taken a3. call_ends t l seq frame out h q3 (own l s) (Send x (count ts) ks flags) pl3 c st z3 fin stk3 extra3 e3 high.tall over3
         (λ j. sent files b seqs bodies j frame (own l s) self x ks us bare g z3)
@@ -893,19 +1075,19 @@ module _ (files : Files) (b : Tree → Frame → Run) (seqs : ℕ → Routine) (
         tree_then seq frame out (h + 0) p p1 fin l a (tree_does a l seq frame out (h + 0) p sd fs.0 pl.0) c st [] st w
         (λ self. unless_nil self (run_trees files top b ts (with_loop l frame) [] (λ vs. run_given_value files top b v (with_loop l frame) s.line no_block (λ given. with_block t (with_loop l frame) given (send_with files top b (with_loop l frame) s.line self x ks vs false))))) high (omega arith) refl le
         (λ self z b1 k1. on seq frame c p1 (self ∷ st) z (start l s) Dup (p1 + 1) (self ∷ (self ∷ st)) z pl.1.0 refl
-        (safe_does ts v t l s seq frame out h (p1 + 1) ks x flags sd fs.1 fs.2 fs.3 pl.1.2 (flags_safe (self_flag a) v (self_bit a)) (bare_safe (self_flag a) v (self_bit a)) c st self z fin refl high b1 (nil_or self) k1)) k
+        (safe_does ts v t l s seq frame out h (p1 + 1) ks x flags sd (trees_all ts l seq frame sd fs.1) (other_all v l seq frame sd fs.2) fs.3 pl.1.2 (flags_safe (self_flag a) v (self_bit a)) (bare_safe (self_flag a) v (self_bit a)) c st self z fin refl high b1 (nil_or self) k1)) k
     form_does (yield ts ks) l s seq frame out h p sd fs pl = λ c st w high le k.
-        args_does ts l seq frame out h p 0 _ sd fs pl c st [] w (finish p (form_shape l (yield ts ks) s)) [] (λ vs. reading (spread ks vs) (λ us. run_given b (with_loop l frame) s.line frame.block us)) refl refl high le
+        args_does ts l seq frame out h p 0 _ sd (trees_all ts l seq frame sd fs) pl c st [] w (finish p (form_shape l (yield ts ks) s)) [] (λ vs. reading (spread ks vs) (λ us. run_given b (with_loop l frame) s.line frame.block us)) refl refl high le
         (λ vs q z pl1 e1 n1 b1 k1. answered seq frame c q (q + 1) (pushed vs st) st (pushed vs []) z out (own l s) (InvokeBlock (count ts) ks) (run_given b frame (own l s) frame.block (spread ks vs z) z) (run_given b (with_loop l frame) s.line frame.block (spread ks vs z) z) pl1.0 pl1.1
         (args_off vs st (count ts) _ (omega arith)) (pushed_over vs [] st) (ap (λ f. f z) (given_block_same (with_loop l frame) frame s.line (own l s) refl (own_lines l frame sd.of_first s.line) files b frame.block (spread ks vs z)))
         (subst (λ y. A seq frame c y st out (run_given b (with_loop l frame) s.line frame.block (spread ks vs z) z)) (sym e1) k1)) k
     form_does (super ts ks v t) l s seq frame out h p sd fs pl = λ c st w high le k.
         let fin = finish p (form_shape l (super ts ks v t) s) in
         on seq frame c p st w (own l s) PutSelf (p + 1) (frame.self_value ∷ st) w pl.0 refl
-        (args_does ts l seq frame out h (p + 1) 1 _ sd fs.0 pl.2 c st (frame.self_value ∷ []) w fin []
+        (args_does ts l seq frame out h (p + 1) 1 _ sd (trees_all ts l seq frame sd fs.0) pl.2 c st (frame.self_value ∷ []) w fin []
         (λ vs. run_given_value files top b v (with_loop l frame) s.line frame.block (λ given. reading (spread ks vs) (λ ys. super_to files top b frame.method (with_loop l frame) s.line t given ys)))
         refl refl high le
-        (λ us q2 z2 pl2 e2 n2 b2 a2. value_does v l seq frame out h q2 (suc (count ts)) _ sd fs.1 pl2 c st (pushed us (frame.self_value ∷ st)) (pushed us (frame.self_value ∷ [])) z2 fin s.line frame.block
+        (λ us q2 z2 pl2 e2 n2 b2 a2. value_does v l seq frame out h q2 (suc (count ts)) _ sd (other_all v l seq frame sd fs.1) pl2 c st (pushed us (frame.self_value ∷ st)) (pushed us (frame.self_value ∷ [])) z2 fin s.line frame.block
         (λ given. reading (spread ks us) (λ ys. super_to files top b frame.method (with_loop l frame) s.line t given ys)) e2 high (let m1 = pushed_length us (frame.self_value ∷ st) in omega (arith, high.tall)) (pushed_over us (frame.self_value ∷ []) st) b2
         (λ g q3 z3 stk3 extra3 pl3 e3 over3 only taken a3. call_ends t l seq frame out h q3 (own l s) (InvokeSuper (count ts) ks (1 + value_flag v)) pl3 c st z3 fin stk3 extra3 e3 high.tall over3
         (λ j. super_sent files b seqs bodies j frame (own l s) ks us g z3)
@@ -928,7 +1110,7 @@ module _ (files : Files) (b : Tree → Frame → Run) (seqs : ℕ → Routine) (
         (on seq frame c (p + 1) (frame.self_value ∷ st) w (own l s) (TopN h) (p + 1 + 1) stk w pl.2.0 (item_last frame.handled frame.self_value st h (λ v. goes (p + 1 + 1) (v ∷ (frame.self_value ∷ st)) w) (high.bottom fs) high.tall)
         (plain_ends l seq frame out (p + 1 + 1) s.line (codes "raise") 1 1 (frame.handled ∷ []) frame.self_value st w c sd.of_first (inr refl) refl pl.2.2.0 pl.2.2.1 k))
     form_does (negated a) l s seq frame out h p sd fs pl = form_negated_ends a l s seq frame out h p sd (λ o1 h1 p1 pl1. tree_does a l seq frame o1 h1 p1 sd fs pl1) fs pl
-    form_does (statements ts) l s seq frame out h p sd fs pl = all_does ts l seq frame out h p (own l s) sd fs pl
+    form_does (statements ts) l s seq frame out h p sd fs pl = all_does ts l seq frame out h p (own l s) sd (trees_all ts l seq frame sd fs) pl
     form_does (both a e) l s seq frame out h p sd fs pl = form_both_ends a e l s seq frame out h p sd (λ o1 h1 p1 pl1. tree_does a l seq frame o1 h1 p1 sd fs.0 pl1) (λ o1 h1 p1 pl1. tree_does e l seq frame o1 h1 p1 sd fs.1 pl1) fs pl
     form_does (either a e) l s seq frame out h p sd fs pl = form_either_ends a e l s seq frame out h p sd (λ o1 h1 p1 pl1. tree_does a l seq frame o1 h1 p1 sd fs.0 pl1) (λ o1 h1 p1 pl1. tree_does e l seq frame o1 h1 p1 sd fs.1 pl1) fs pl
     form_does (if_else e a o) l s seq frame out h p sd fs pl = λ c st w high le k.
@@ -936,18 +1118,18 @@ module _ (files : Files) (b : Tree → Frame → Run) (seqs : ℕ → Routine) (
         tree_then seq frame out (h + 0) p pb fin l e (tree_does e l seq frame out (h + 0) p sd fs.0 pl.0) c st [] st w (λ v. choose (is_true v) (run_it l frame a) (run_other files top b o (with_loop l frame))) high (omega arith) refl le
         (λ v z b1 k1. if_ends l seq frame out h pb (size (shape l a) + 1) pa (size (other_shape l o)) (own l s) fin (run_it l frame a) (run_other files top b o (with_loop l frame)) c st v z pl.1.0
         (let g = finish_size (shape l a) (pb + 1) in omega arith) pl.1.2.1.0 (let g = finish_size (other_shape l o) (pa + 1) in omega arith)
-        (λ c1 st1 w1 high1. tree_does a l seq frame out (h + 0) (pb + 1) sd fs.1 pl.1.2.0 c1 st1 w1 (plus_zero _ _ _ _ high1)) (other_does o l seq frame out h (pa + 1) sd fs.2 pl.1.2.1.2.0) high b1 (is_true v) refl k1) k
+        (λ c1 st1 w1 high1. tree_does a l seq frame out (h + 0) (pb + 1) sd fs.1 pl.1.2.0 c1 st1 w1 (plus_zero _ _ _ _ high1)) (other_does o l seq frame out h (pa + 1) sd (other_all o l seq frame sd fs.2) pl.1.2.1.2.0) high b1 (is_true v) refl k1) k
     form_does (while_loop a e u true) l s seq frame out h p sd fs pl = form_while_loop_first_ends a e u l s seq frame out h p sd (λ o1 h1 p1 pl1. tree_does a (looped l) seq frame o1 h1 p1 sd fs.0 pl1) (λ o1 h1 p1 pl1. tree_does e l seq frame o1 h1 p1 sd fs.1 pl1) fs pl
     form_does (while_loop a e u false) l s seq frame out h p sd fs pl = form_while_loop_later_ends a e u l s seq frame out h p sd (λ o1 h1 p1 pl1. tree_does a (looped l) seq frame o1 h1 p1 sd fs.0 pl1) (λ o1 h1 p1 pl1. tree_does e l seq frame o1 h1 p1 sd fs.1 pl1) fs pl
     form_does (return_with ts) l s seq frame out h p sd fs pl = λ c st w high le k.
-        values_does ts l seq frame out h p (own l s) _ sd fs pl c st w (finish p (form_shape l (return_with ts) s)) (leave_home (with_loop l frame) s.line) refl high le
+        values_does ts l seq frame out h p (own l s) _ sd (trees_all ts l seq frame sd fs) pl c st w (finish p (form_shape l (return_with ts) s)) (leave_home (with_loop l frame) s.line) refl high le
         (λ v q z pl1 e1 b1 k1. answered seq frame c q (q + 1) (v ∷ st) st (v ∷ []) z out (own l s) (Throw 1) (leave_home frame (own l s) v z) (leave_home (with_loop l frame) s.line v z) pl1.0 pl1.1 refl refl
         (ap (λ f. f z) (home_same (with_loop l frame) frame s.line (own l s) refl (own_lines l frame sd.of_first s.line) v)) (subst (λ y. A seq frame c y st out (leave_home (with_loop l frame) s.line v z)) (sym e1) k1)) k
     form_does (break_with ts) l s seq frame out h p sd fs pl = λ c st w high le k.
-        values_does ts l seq frame out h p (own l s) _ sd fs pl c st w (finish p (form_shape l (break_with ts) s)) (leave_loop (with_loop l frame) s.line) refl high le
+        values_does ts l seq frame out h p (own l s) _ sd (trees_all ts l seq frame sd fs) pl c st w (finish p (form_shape l (break_with ts) s)) (leave_loop (with_loop l frame) s.line) refl high le
         (λ v q z pl1 e1 b1 k1. leave_by l.loop l seq frame out q s.line c st v z sd.of_first pl1.0 pl1.1 (subst (λ y. A seq frame c y st out (leave_loop (with_loop l frame) s.line v z)) (sym e1) k1)) k
     form_does (next_with ts) l s seq frame out h p sd fs pl = λ c st w high le k.
-        values_does ts l seq frame out h p (own l s) _ sd fs pl c st w (finish p (form_shape l (next_with ts) s)) Next refl high le
+        values_does ts l seq frame out h p (own l s) _ sd (trees_all ts l seq frame sd fs) pl c st w (finish p (form_shape l (next_with ts) s)) Next refl high le
         (λ v q z pl1 e1 b1 k1. next_by l.loop seq frame out q (own l s) c st v z pl1.0 pl1.1 k1) k
     form_does retry l s seq frame out h p sd fs pl = λ c st w high le k.
         on seq frame c p st w (own l s) PutNil (p + 1) (nil ∷ st) w pl.0 refl
@@ -959,7 +1141,7 @@ module _ (files : Files) (b : Tree → Frame → Run) (seqs : ℕ → Routine) (
         (λ v z b1. subst (λ y. Runs files b seqs bodies y (rescue_frame y frame v) 0 (v ∷ []) (entered_at (number_of l e) frame z) (run files top b e (handling (with_loop l frame) v) z)) (sym fs.2)
         (subst (λ y. Runs files b seqs bodies (part_routine (in_rescue l e) kinds.Rescue e) (rescue_frame (part_routine (in_rescue l e) kinds.Rescue e) frame v) 0 (v ∷ []) y (run files top b e (handling (with_loop l frame) v) z)) (sym (entered_same l frame e z sd.of_places))
         (rescue_part e l frame v z sd fs.3 b1)))
-        c st high (last_does o l seq frame out h pe line sd fs.1 pl.1 c st high) top top w (omega arith) (omega arith) le k
+        c st high (last_does o l seq frame out h pe line sd (other_all o l seq frame sd fs.1) pl.1 c st high) top top w (omega arith) (omega arith) le k
     form_does (ensure a e) l s seq frame out h p sd fs pl = λ c st w high le k.
         let p6 = finish p (shape l a) in
         ensures_run files b seqs bodies top l.clause l.sight.scopes seq frame out h p p6 (number_of l e) (own l s) (run_it l frame a) (run_it l frame e) pl.0.1.0 pl.0.1.1 (λ c1 st1 w1 high1. tree_does a l seq frame _ (h + 0) p sd fs.0 pl.0.0 c1 st1 w1 (plus_zero _ _ _ _ high1)) (known.trees l.sight.scopes frame (with_loop l frame) refl a)
@@ -978,79 +1160,6 @@ module _ (files : Files) (b : Tree → Frame → Run) (seqs : ℕ → Routine) (
     form_does (ensure_sequence a) l s seq frame out h p sd fs pl = absurd fs
     form_does (body ps t) l s seq frame out h p sd fs pl = absurd fs
 
-    all_does : (ts : Trees) (l : Where) (seq : Routine) (frame : Frame) (out : List CatchRow) (h p : ℕ) (line : ℕ) → StandsIn l frame → FindsTrees seqs bodies l ts → Placed seq.body.code seq.body.rows out h p (all_shape l line ts) → D l seq frame out h p (finish p (all_shape l line ts)) (run_all files top b ts (with_loop l frame) nil)
-    all_does no_more l seq frame out h p line sd fs pl = λ c st w high le k. on seq frame c p st w line PutNil (p + 1) (nil ∷ st) w pl.0 refl k
-    all_does (more t ts) l seq frame out h p line sd fs pl = λ c st w high le k.
-        let p1 = finish p (shape l t) in
-        tree_then seq frame out (h + 0) p p1 (finish p1 (rest_shape l line ts)) l t (tree_does t l seq frame out (h + 0) p sd fs.0 pl.0) c st [] st w (run_all files top b ts (with_loop l frame)) high (omega arith) refl le
-        (λ v z b1 k1. rest_does ts l seq frame out h p1 line sd fs.1 pl.1 c st z v high b1 k1) k
-
-    rest_does : (ts : Trees) (l : Where) (seq : Routine) (frame : Frame) (out : List CatchRow) (h p : ℕ) (line : ℕ) → StandsIn l frame → FindsTrees seqs bodies l ts → Placed seq.body.code seq.body.rows out h p (rest_shape l line ts) → (c : Outcome) (st : List Value) (w : World) (v : Value) → High l.clause frame.handled h st → G l frame w
-        → A seq frame c (finish p (rest_shape l line ts)) st out (run_all files top b ts (with_loop l frame) v w) → R seq frame c p (v ∷ st) w
-    rest_does no_more l seq frame out h p line sd fs pl c st w v high le k = k
-    rest_does (more t ts) l seq frame out h p line sd fs pl c st w v high le k =
-        let p1 = finish (p + 1) (shape l t) in
-        on seq frame c p (v ∷ st) w line Pop (p + 1) st w pl.0 refl
-        (tree_then seq frame out (h + 0) (p + 1) p1 (finish p1 (rest_shape l line ts)) l t (tree_does t l seq frame out (h + 0) (p + 1) sd fs.0 pl.2.0) c st [] st w (run_all files top b ts (with_loop l frame)) high (omega arith) refl le
-        (λ u z b1 k1. rest_does ts l seq frame out h p1 line sd fs.1 pl.2.1 c st z u high b1 k1) k)
-
-    other_does : (o : Other) (l : Where) (seq : Routine) (frame : Frame) (out : List CatchRow) (h p : ℕ) → StandsIn l frame → FindsOther seqs bodies l o → Placed seq.body.code seq.body.rows out (h + 0) p (other_shape l o) → D l seq frame out h p (finish p (other_shape l o)) (run_other files top b o (with_loop l frame))
-    other_does without l seq frame out h p sd fs pl = λ c st w high le k. on seq frame c p st w l.first PutNil (p + 1) (nil ∷ st) w pl.0 refl k
-    other_does (with t) l seq frame out h p sd fs pl = λ c st w high le k. tree_does t l seq frame out (h + 0) p sd fs pl c st w (plus_zero _ _ _ _ high) le k
-
-    last_does : (o : Other) (l : Where) (seq : Routine) (frame : Frame) (out : List CatchRow) (h p : ℕ) (line : ℕ) → StandsIn l frame → FindsOther seqs bodies l o → Placed seq.body.code seq.body.rows out h p (last_shape l line o) → (c : Outcome) (st : List Value) → High l.clause frame.handled h st → (v : Value) (z : World) → G l frame z
-        → A seq frame c (finish p (last_shape l line o)) st out (run_last files top b o (with_loop l frame) v z) → R seq frame c p (v ∷ st) z
-    last_does without l seq frame out h p line sd fs pl c st high v z le k = k
-    last_does (with t) l seq frame out h p line sd fs pl c st high v z le k =
-        on seq frame c p (v ∷ st) z line Pop (p + 1) st z pl.0 refl (tree_does t l seq frame out (h + 0) (p + 1) sd fs pl.2.0 c st z (plus_zero _ _ _ _ high) le k)
-
-    receiver_does : (o : Other) (l : Where) (seq : Routine) (frame : Frame) (out : List CatchRow) (h p : ℕ) (line : ℕ) (s : Shape) → StandsIn l frame → FindsOther seqs bodies l o → Placed seq.body.code seq.body.rows out h p (receiver_shape l o line s)
-        → (c : Outcome) (st : List Value) (w : World) (fin : ℕ) (next : Value → Run) → finish p (receiver_shape l o line s) ≡ fin → High l.clause frame.handled h st → G l frame w
-        → ((v : Value) (q : ℕ) (z : World) → Placed seq.body.code seq.body.rows out h q s → finish q s ≡ fin → G l frame z → A seq frame c fin st out (next v z) → R seq frame c q (v ∷ st) z)
-        → A seq frame c fin st out (run_receiver files top b o (with_loop l frame) next w) → R seq frame c p st w
-    receiver_does without l seq frame out h p line s sd fs pl c st w fin next e high le g k = on seq frame c p st w line PutSelf (p + 1) (frame.self_value ∷ st) w pl.0 refl (g frame.self_value (p + 1) w pl.2 e le k)
-    receiver_does (with t) l seq frame out h p line s sd fs pl c st w fin next e high le g k =
-        let p1 = finish p (shape l t) in
-        tree_then seq frame out (h + 0) p p1 fin l t (tree_does t l seq frame out (h + 0) p sd fs pl.0) c st [] st w next high (omega arith) refl le (λ v z b1 k1. g v p1 z pl.1 e b1 k1) k
-
-    args_does : (ts : Trees) (l : Where) (seq : Routine) (frame : Frame) (out : List CatchRow) (h p : ℕ) (d : ℕ) (s : Shape) → StandsIn l frame → FindsTrees seqs bodies l ts → Placed seq.body.code seq.body.rows out h p (args_shape l d ts s)
-        → (c : Outcome) (st : List Value) (under : List Value) (w : World) (fin : ℕ) (vs : List Value) (next : List Value → Run) → finish p (args_shape l d ts s) ≡ fin → length vs + length under ≡ d → High l.clause frame.handled h st → G l frame w
-        → ((us : List Value) (q : ℕ) (z : World) → Placed seq.body.code seq.body.rows out h q s → finish q s ≡ fin → length us ≡ length vs + count ts → G l frame z → A seq frame c fin st out (next us z) → R seq frame c q (pushed us (under ++ st)) z)
-        → A seq frame c fin st out (run_trees files top b ts (with_loop l frame) vs next w) → R seq frame c p (pushed vs (under ++ st)) w
-    args_does no_more l seq frame out h p d s sd fs pl c st under w fin vs next e n high le g k = g vs p w pl e (omega arith) le k
-    args_does (more t ts) l seq frame out h p d s sd fs pl c st under w fin vs next e n high le g k =
-        let p1 = finish p (shape l t) in
-        tree_then seq frame out (h + d) p p1 fin l t (tree_does t l seq frame out (h + d) p sd fs.0 pl.0) c (pushed vs (under ++ st)) (pushed vs under) st w (λ v. run_trees files top b ts (with_loop l frame) (vs ++ v ∷ []) next)
-        high (let m = pushed_length vs (under ++ st) in let m1 = length-append under st in omega (arith, high.tall)) (pushed_over vs under st) le
-        (λ v z b1 k1. let m = length-append vs (v ∷ []) in
-        subst (λ y. R seq frame c p1 y z) (pushed_last vs v (under ++ st)) (args_does ts l seq frame out h p1 (suc d) s sd fs.1 pl.1 c st under z fin (vs ++ v ∷ []) next e (omega arith) high b1 (λ us q z1 pl1 e1 n1 b2 k2. g us q z1 pl1 e1 (omega arith) b2 k2) k1)) k
-
-    value_does : (v : Other) (l : Where) (seq : Routine) (frame : Frame) (out : List CatchRow) (h p : ℕ) (d : ℕ) (s : Shape) → StandsIn l frame → FindsOther seqs bodies l v → Placed seq.body.code seq.body.rows out h p (value_shape l d v s)
-        → (c : Outcome) (st stk over : List Value) (w : World) (fin n : ℕ) (own_block : Given) (next : Given → Run) → finish p (value_shape l d v s) ≡ fin → High l.clause frame.handled h st → length stk ≡ h + d → stk ≡ over ++ st → G l frame w
-        → ((g : Option Value) (q : ℕ) (z : World) (stk1 over1 : List Value) → Placed seq.body.code seq.body.rows out h q s → finish q s ≡ fin → stk1 ≡ over1 ++ st → (is_with v ≡ false → g ≡ None) → ((go : Option Value → List Value → Step) → with_value (is_with v) stk1 go ≡ go g stk)
-        → A seq frame c fin st out (value_given (with_loop l frame) n own_block g next z) → R seq frame c q stk1 z)
-        → A seq frame c fin st out (run_given_value files top b v (with_loop l frame) n own_block next w) → R seq frame c p stk w
-    value_does without l seq frame out h p d s sd fs pl c st stk over w fin n own_block next e high tall same le g k = g None p w stk over pl e same (λ y. refl) (λ go. refl) k
-    value_does (with u) l seq frame out h p d s sd fs pl c st stk over w fin n own_block next e high tall same le g k =
-        let p1 = finish p (shape l u) in
-        tree_then seq frame out (h + d) p p1 fin l u (tree_does u l seq frame out (h + d) p sd fs pl.0) c stk over st w (λ v. given_value (with_loop l frame) n v next) high tall same le
-        (λ v z b1 k1. g (Some v) p1 z (v ∷ stk) (v ∷ over) pl.1 e (ap (λ y. v ∷ y) same) (λ y. absurd (cc y)) (λ go. refl) k1) k
-
-    values_does : (ts : Trees) (l : Where) (seq : Routine) (frame : Frame) (out : List CatchRow) (h p : ℕ) (line : ℕ) (s : Shape) → StandsIn l frame → FindsTrees seqs bodies l ts → Placed seq.body.code seq.body.rows out h p (values_shape l ts line s)
-        → (c : Outcome) (st : List Value) (w : World) (fin : ℕ) (next : Value → Run) → finish p (values_shape l ts line s) ≡ fin → High l.clause frame.handled h st → G l frame w
-        → ((v : Value) (q : ℕ) (z : World) → Placed seq.body.code seq.body.rows out h q s → finish q s ≡ fin → G l frame z → A seq frame c fin st out (next v z) → R seq frame c q (v ∷ st) z)
-        → A seq frame c fin st out (run_trees files top b ts (with_loop l frame) [] (λ vs. of_values vs next) w) → R seq frame c p st w
-    values_does no_more l seq frame out h p line s sd fs pl c st w fin next e high le g k = on seq frame c p st w line PutNil (p + 1) (nil ∷ st) w pl.0 refl (g nil (p + 1) w pl.2 e le k)
-    values_does (more t no_more) l seq frame out h p line s sd fs pl c st w fin next e high le g k =
-        let p1 = finish p (shape l t) in
-        tree_then seq frame out (h + 0) p p1 fin l t (tree_does t l seq frame out (h + 0) p sd fs.0 pl.0) c st [] st w next high (omega arith) refl le (λ v z b1 k1. g v p1 z pl.1 e b1 k1) k
-    values_does (more t (more u us)) l seq frame out h p line s sd fs pl c st w fin next e high le g k =
-        let p1 = finish p (shape l t) in let p2 = finish p1 (shape l u) in
-        tree_then seq frame out (h + 0) p p1 fin l t (tree_does t l seq frame out (h + 0) p sd fs.0 pl.0) c st [] st w (λ v. then (run_it l frame u) (λ y. run_trees files top b us (with_loop l frame) (v ∷ (y ∷ [])) (λ vs. of_values vs next))) high (omega arith) refl le
-        (λ v z b1 k1. tree_then seq frame out (h + 1) p1 p2 fin l u (tree_does u l seq frame out (h + 1) p1 sd fs.1.0 pl.1.0) c (v ∷ st) (v ∷ []) st z (λ y. run_trees files top b us (with_loop l frame) (v ∷ (y ∷ [])) (λ vs. of_values vs next)) high (omega arith) refl b1
-        (λ y z1 b2 k2. args_does us l seq frame out h p2 2 _ sd fs.1.1 pl.1.1 c st [] z1 fin (v ∷ (y ∷ [])) (λ vs. of_values vs next) e refl high b2
-        (λ vs q z2 pl1 e1 n1 b3 k3. several l seq frame out h q (suc (suc (count us))) line s c st vs z2 fin next pl1 e1 (omega arith) b3 (subst (λ o. A seq frame c fin st out (o z2)) (many_values vs next (omega arith)) k3) g) k2) k1) k
-
     rescue_part : (e : Tree) (l : Where) (frame : Frame) (v : Value) (z : World) → StandsIn l frame → FindsRescue seqs bodies (in_rescue l e) e → G l frame z
         → Runs files b seqs bodies (part_routine (in_rescue l e) kinds.Rescue e) (rescue_frame (part_routine (in_rescue l e) kinds.Rescue e) frame v) 0 (v ∷ []) (enter frame.code.source (place_of e) z) (run files top b e (handling (with_loop l frame) v) z)
     rescue_part (at s f) l frame v z sd fs le = rescue_form f (in_rescue l (at s f)) s frame v z refl (record { of_first = refl; of_path = sd.of_path; of_places = sd.of_places; of_body = sd.of_body }) fs le
@@ -1063,7 +1172,7 @@ module _ (files : Files) (b : Tree → Frame → Run) (seqs : ℕ → Routine) (
         let c : Outcome = run_clauses files top b cs (with_loop l fr) s.line z1 in let n = size (clauses_shape l cs line 0 done) in
         let pl = placed (form_shape l (rescue_sequence cs) s) 1 in
         let tail = clauses_tail seq.body.code seq.body.rows [] 1 cs l 0 line 0 (op line (Throw 0) (bodies_shape l cs line)) pl in
-        clauses_does cs l seq fr 0 s.line 0 (op line (Throw 0) (bodies_shape l cs line)) (0 + n + 1) sd fs pl tail.2 c z1 (omega arith) (ready_entered l.sight.scopes frame fr top frame.code.source s.place z refl le)
+        clauses_does cs l seq fr 0 s.line 0 (op line (Throw 0) (bodies_shape l cs line)) (0 + n + 1) sd (clauses_all cs l seq fr sd fs) pl tail.2 c z1 (omega arith) (ready_entered l.sight.scopes frame fr top frame.code.source s.place z refl le)
         (λ q y pl1 e1. left_with files b seqs bodies seq fr c q (fr.handled ∷ []) y (Raise fr.handled y) (here files b seqs bodies seq fr c q (fr.handled ∷ []) y line (Throw 0) pl1.0) e1) refl
     rescue_form f l s frame v z in_clause sd fs le = absurd fs
 
@@ -1083,95 +1192,18 @@ module _ (files : Files) (b : Tree → Frame → Run) (seqs : ℕ → Routine) (
         (left_with files b seqs bodies seq fr c (p1 + 1) [] y (Done nil y) (here files b seqs bodies seq fr c (p1 + 1) [] y line (Throw 0) pl.1.2.0) e1)))
     ensure_form f l s frame z no_exception sd fs le = absurd fs
 
-    -- the tests of the classes of a clause, behind the first
-    classes_does : (ts : Trees) (l : Where) (seq : Routine) (frame : Frame) (p n0 far : ℕ) (s : Shape) → StandsIn l frame → FindsTrees seqs bodies l ts → Placed seq.body.code seq.body.rows [] 1 p (classes_shape l ts (line_at l n0) far s)
-        → (c : Outcome) (w : World) (hit rest : Run) (hit_place : ℕ) → p + size (classes_shape l ts (line_at l n0) 0 done) + far ≡ hit_place → G l frame w
-        → ((z : World) → G l frame z → c ≡ hit z → R seq frame c hit_place (frame.handled ∷ []) z)
-        → ((q : ℕ) (z : World) → Placed seq.body.code seq.body.rows [] 1 q s → q + far ≡ hit_place → G l frame z → c ≡ rest z → R seq frame c q (frame.handled ∷ []) z)
-        → c ≡ run_classes files top b ts (with_loop l frame) n0 hit rest w → R seq frame c p (frame.handled ∷ []) w
-    classes_does no_more l seq frame p n0 far s sd fs pl c w hit rest hit_place over le to_hit to_rest e = to_rest p w pl (omega arith) le e
-    classes_does (more t ts) l seq frame p n0 far s sd fs pl c w hit rest hit_place over le to_hit to_rest e =
-        let line = line_at l n0 in let q = finish (p + 1) (shape l t) in let g = finish_size (shape l t) (p + 1) in let n = size (classes_shape l ts line 0 done) + far in
-        on seq frame c p (frame.handled ∷ []) w line Dup (p + 1) (frame.handled ∷ (frame.handled ∷ [])) w pl.0 refl
-        (tree_does t l seq frame [] (1 + 1) (p + 1) sd fs.0 pl.2.0 c (frame.handled ∷ (frame.handled ∷ [])) w (record { tall = refl; bottom = λ y. refl }) le
-        (whole_then files b seqs bodies seq frame c q (frame.handled ∷ (frame.handled ∷ [])) (run_it l frame t w) (λ v. match_class (with_loop l frame) n0 v hit (run_classes files top b ts (with_loop l frame) n0 hit rest)) e
-        (λ v z eo e1. let b1 : G l frame z = subst (λ o. G l frame (world_of o)) eo (keeps l frame t w le) in
-        match_does l seq frame c sd.of_first q n n0 hit_place v z hit (run_classes files top b ts (with_loop l frame) n0 hit rest) pl.2.1.0 pl.2.1.1 pl.2.1.2.0 (omega arith) (to_hit z b1)
-        (λ e2. classes_does ts l seq frame (q + 1 + 1) n0 far s sd fs.1 pl.2.1.2.2 c z hit rest hit_place (omega arith) b1 to_hit to_rest e2) e1)))
+    trees_all : (ts : Trees) (l : Where) (seq : Routine) (frame : Frame) → StandsIn l frame → FindsTrees seqs bodies l ts → TS l seq frame ts
+    trees_all no_more l seq frame sd fs = tt
+    trees_all (more t ts) l seq frame sd fs = (λ out h p pl. tree_does t l seq frame out h p sd fs.0 pl, trees_all ts l seq frame sd fs.1)
 
-    clause_does : (ts : Trees) (l : Where) (seq : Routine) (frame : Frame) (p n0 far : ℕ) (s : Shape) → StandsIn l frame → FindsTrees seqs bodies l ts → Placed seq.body.code seq.body.rows [] 1 p (clause_shape l ts (line_at l n0) far s)
-        → (c : Outcome) (w : World) (hit rest : Run) (hit_place : ℕ) → p + size (clause_shape l ts (line_at l n0) 0 done) + far ≡ hit_place → G l frame w
-        → ((z : World) → G l frame z → c ≡ hit z → R seq frame c hit_place (frame.handled ∷ []) z)
-        → ((q : ℕ) (z : World) → Placed seq.body.code seq.body.rows [] 1 q s → q + far ≡ hit_place → G l frame z → c ≡ rest z → R seq frame c q (frame.handled ∷ []) z)
-        → c ≡ run_clause files top b ts (with_loop l frame) n0 hit rest w → R seq frame c p (frame.handled ∷ []) w
-    clause_does no_more l seq frame p n0 far s sd fs pl c w hit rest hit_place over le to_hit to_rest e =
-        let xs : List Bytes = codes "StandardError" ∷ [] in let line = line_at l n0 in
-        let o : Outcome = path_from frame l.first xs (object object_class) w in
-        let same : path_from (with_loop l frame) 0 xs (object object_class) w ≡ o = ap (λ f. f w) (path_same (with_loop l frame) frame 0 l.first refl (own_lines l frame sd.of_first 0) xs (object object_class)) in
-        on seq frame c p (frame.handled ∷ []) w line Dup (p + 1) (frame.handled ∷ (frame.handled ∷ [])) w pl.0 refl
-        (answers files b seqs bodies seq frame c (p + 1) (p + 1 + 1) (frame.handled ∷ (frame.handled ∷ [])) (frame.handled ∷ (frame.handled ∷ [])) [] w [] o (here files b seqs bodies seq frame c (p + 1) (frame.handled ∷ (frame.handled ∷ [])) w l.first (OptGetConstantPath 1 xs) pl.2.0) pl.2.1 refl
-        (whole_then files b seqs bodies seq frame c (p + 1 + 1) (frame.handled ∷ (frame.handled ∷ [])) o (λ v. match_class (with_loop l frame) n0 v hit rest) (subst (λ y. c ≡ then_do y (λ v. match_class (with_loop l frame) n0 v hit rest)) same e)
-        (λ v z eo e1. let b1 : G l frame z = subst (λ y. G l frame (world_of y)) eo (known.paths l.sight.scopes frame frame refl l.first xs (object object_class) top w (omega arith) le) in
-        match_does l seq frame c sd.of_first (p + 1 + 1) far n0 hit_place v z hit rest pl.2.2.0 pl.2.2.1 pl.2.2.2.0 (omega arith) (to_hit z b1)
-        (λ e2. to_rest (p + 1 + 1 + 1 + 1) z pl.2.2.2.2 (omega arith) b1 e2) e1)))
-    clause_does (more t ts) l seq frame p n0 far s sd fs pl c w hit rest hit_place over le to_hit to_rest e =
-        let line = line_at l n0 in let q = finish (p + 1) (shape l t) in let g = finish_size (shape l t) (p + 1) in let n = size (classes_shape l ts line 0 done) + far in
-        on seq frame c p (frame.handled ∷ []) w line Dup (p + 1) (frame.handled ∷ (frame.handled ∷ [])) w pl.0 refl
-        (tree_does t l seq frame [] (1 + 1) (p + 1) sd fs.0 pl.2.0 c (frame.handled ∷ (frame.handled ∷ [])) w (record { tall = refl; bottom = λ y. refl }) le
-        (whole_then files b seqs bodies seq frame c q (frame.handled ∷ (frame.handled ∷ [])) (run_it l frame t w) (λ v. match_class (with_loop l frame) n0 v hit (run_classes files top b ts (with_loop l frame) n0 hit rest)) e
-        (λ v z eo e1. let b1 : G l frame z = subst (λ o. G l frame (world_of o)) eo (keeps l frame t w le) in
-        match_does l seq frame c sd.of_first q n n0 hit_place v z hit (run_classes files top b ts (with_loop l frame) n0 hit rest) pl.2.1.0 pl.2.1.1 pl.2.1.2.0 (omega arith) (to_hit z b1)
-        (λ e2. classes_does ts l seq frame (q + 1 + 1) n0 far s sd fs.1 pl.2.1.2.2 c z hit rest hit_place (omega arith) b1 to_hit to_rest e2) e1)))
+    other_all : (o : Other) (l : Where) (seq : Routine) (frame : Frame) → StandsIn l frame → FindsOther seqs bodies l o → TO l seq frame o
+    other_all without l seq frame sd fs = tt
+    other_all (with t) l seq frame sd fs = λ out h p pl. tree_does t l seq frame out h p sd fs pl
 
-    clauses_does : (cs : Rescues) (l : Where) (seq : Routine) (frame : Frame) (p n0 far : ℕ) (s : Shape) (body_place : ℕ) → StandsIn l frame → FindsClauses seqs bodies l cs → Placed seq.body.code seq.body.rows [] 1 p (clauses_shape l cs (line_at l n0) far s)
-        → Placed seq.body.code seq.body.rows [] 1 body_place (bodies_shape l cs (line_at l n0)) → (c : Outcome) (w : World) → p + size (clauses_shape l cs (line_at l n0) 0 done) + 1 + far ≡ body_place → G l frame w
-        → ((q : ℕ) (z : World) → Placed seq.body.code seq.body.rows [] 1 q s → c ≡ Raise frame.handled z → R seq frame c q (frame.handled ∷ []) z)
-        → c ≡ run_clauses files top b cs (with_loop l frame) n0 w → R seq frame c p (frame.handled ∷ []) w
-    clauses_does no_clause l seq frame p n0 far s body_place sd fs pl its_bodies c w over le to_end e = to_end p w pl e
-    clauses_does (clause ts x t cs) l seq frame p n0 far s body_place sd fs pl its_bodies c w over le to_end e =
-        let line = line_at l n0 in
-        let n = size (named l line x (part 0 (shape l t) (op line Leave done))) in let g = clauses_step ts x t cs l line in
-        clause_does ts l seq frame p n0 (size (clauses_shape l cs line 0 done) + 1 + far) (clauses_shape l cs line (far + n) s) sd fs.0 pl c w
-        (λ z. run_it l frame t (set_exception (with_loop l frame) x z)) (run_clauses files top b cs (with_loop l frame) n0) body_place (omega arith) le
-        (λ z b1 e1. hit_ends l seq frame c sd.of_first x line body_place (shape l t) (bodies_shape l cs line) (run_it l frame t) z its_bodies (λ q pl1. tree_does t l seq frame [] (1 + 0) q sd fs.2 pl1) fs.1 b1 e1)
-        (λ q z pl1 over1 b1 e1. clauses_does cs l seq frame q n0 (far + n) s (body_place + n) sd fs.3 pl1 (named_tail seq.body.code seq.body.rows [] 1 x l line body_place (shape l t) (bodies_shape l cs line) its_bodies) c z (omega arith) b1 to_end e1) e
+    pairs_all : (ps : Pairs) (l : Where) (seq : Routine) (frame : Frame) → StandsIn l frame → FindsPairs seqs bodies l ps → TP l seq frame ps
+    pairs_all no_pair l seq frame sd fs = tt
+    pairs_all (pair t u ps) l seq frame sd fs = (λ out h p pl. tree_does t l seq frame out h p sd fs.0 pl, λ out h p pl. tree_does u l seq frame out h p sd fs.1 pl, pairs_all ps l seq frame sd fs.2)
 
-    pairs_does : (ps : Pairs) (l : Where) (seq : Routine) (frame : Frame) (out : List CatchRow) (h p : ℕ) (d : ℕ) (s : Shape) → StandsIn l frame → FindsPairs seqs bodies l ps → Placed seq.body.code seq.body.rows out h p (pairs_shape l d ps s)
-        → (c : Outcome) (st : List Value) (w : World) (fin : ℕ) (qs : List (Value × Value)) (next : List (Value × Value) → Run) → finish p (pairs_shape l d ps s) ≡ fin → length qs + length qs ≡ d → High l.clause frame.handled h st → G l frame w
-        → ((rs : List (Value × Value)) (q : ℕ) (z : World) → Placed seq.body.code seq.body.rows out h q s → finish q s ≡ fin → length rs ≡ length qs + count_pairs ps → G l frame z → A seq frame c fin st out (next rs z) → R seq frame c q (pushed (flat rs) st) z)
-        → A seq frame c fin st out (run_pairs files top b ps (with_loop l frame) qs next w) → R seq frame c p (pushed (flat qs) st) w
-    pairs_does no_pair l seq frame out h p d s sd fs pl c st w fin qs next e n high le g k = g qs p w pl e (omega arith) le k
-    pairs_does (pair t u ps) l seq frame out h p d s sd fs pl c st w fin qs next e n high le g k =
-        let p1 = finish p (shape l t) in let p2 = finish p1 (shape l u) in
-        tree_then seq frame out (h + d) p p1 fin l t (tree_does t l seq frame out (h + d) p sd fs.0 pl.0) c (pushed (flat qs) st) (pushed (flat qs) []) st w (λ x. then (run_it l frame u) (λ v. run_pairs files top b ps (with_loop l frame) (qs ++ (x, v) ∷ []) next))
-        high (let m = pushed_length (flat qs) st in omega (arith, high.tall, flat_length qs)) (pushed_over (flat qs) [] st) le
-        (λ x z b1 k1. tree_then seq frame out (h + suc d) p1 p2 fin l u (tree_does u l seq frame out (h + suc d) p1 sd fs.1 pl.1.0) c (x ∷ pushed (flat qs) st) (x ∷ pushed (flat qs) []) st z (λ v. run_pairs files top b ps (with_loop l frame) (qs ++ (x, v) ∷ []) next)
-        high (let m = pushed_length (flat qs) st in omega (arith, high.tall, flat_length qs)) (ap (λ y. x ∷ y) (pushed_over (flat qs) [] st)) b1
-        (λ v z1 b2 k2. let m = length-append qs ((x, v) ∷ []) in
-        subst (λ y. R seq frame c p2 y z1) (flat_last qs x v st) (pairs_does ps l seq frame out h p2 (suc (suc d)) s sd fs.2 pl.1.1 c st z1 fin (qs ++ (x, v) ∷ []) next e (omega arith) high b2 (λ rs q z2 pl1 e1 n1 b3 k3. g rs q z2 pl1 e1 (omega arith) b3 k3) k2)) k1) k
-
-    -- the call of a safe send, behind its receiver
-    safe_does : (ts : Trees) (v t : Other) (l : Where) (s : SourcePosition) (seq : Routine) (frame : Frame) (out : List CatchRow) (h p : ℕ) (ks : List ℕ) (x : Bytes) (flags : ℕ) → StandsIn l frame → FindsTrees seqs bodies l ts → FindsOther seqs bodies l v → FindsBlock seqs bodies l t v
-        → Placed seq.body.code seq.body.rows out h p (ahead (start l s) BranchNil (size (args_shape l 1 ts (value_shape l (suc (count ts)) v (with_literal l (own l s) (Send x (count ts) ks flags) t)))) (args_shape l 1 ts (value_shape l (suc (count ts)) v (with_literal l (own l s) (Send x (count ts) ks flags) t))))
-        → is_valued flags ≡ is_with v → is_bare flags ≡ false
-        → (c : Outcome) (st : List Value) (self : Value) (w : World) (fin : ℕ) → finish (p + 1) (args_shape l 1 ts (value_shape l (suc (count ts)) v (with_literal l (own l s) (Send x (count ts) ks flags) t))) ≡ fin → High l.clause frame.handled h st → G l frame w
-        → (self ≡ nil) ⊎ ((is_nil self ≡ false) × ((go : Run) → unless_nil self go ≡ go))
-        → A seq frame c fin st out (unless_nil self (run_trees files top b ts (with_loop l frame) [] (λ vs. run_given_value files top b v (with_loop l frame) s.line no_block (λ given. with_block t (with_loop l frame) given (send_with files top b (with_loop l frame) s.line self x ks vs false)))) w) → R seq frame c p (self ∷ (self ∷ st)) w
-    safe_does ts v t l s seq frame out h p ks x flags sd fts fv ft pl valued bare c st self w fin e high le (inl same) k =
-        let rest = args_shape l 1 ts (value_shape l (suc (count ts)) v (with_literal l (own l s) (Send x (count ts) ks flags) t)) in let g = finish_size rest (p + 1) in
-        let go : Run = run_trees files top b ts (with_loop l frame) [] (λ vs. run_given_value files top b v (with_loop l frame) s.line no_block (λ given. with_block t (with_loop l frame) given (send_with files top b (with_loop l frame) s.line self x ks vs false))) in
-        on seq frame c p (self ∷ (self ∷ st)) w (start l s) (BranchNil (p + 1 + size rest)) fin (self ∷ st) w pl.0 (branch_over (is_nil self) p (size rest) fin (self ∷ st) w (ap is_nil same) (omega arith))
-        (subst (λ y. R seq frame c fin (y ∷ st) w) (sym same) (subst (λ y. A seq frame c fin st out (unless_nil y go w)) same k))
-    safe_does ts v t l s seq frame out h p ks x flags sd fts fv ft pl valued bare c st self w fin e high le (inr other) k =
-        let rest = args_shape l 1 ts (value_shape l (suc (count ts)) v (with_literal l (own l s) (Send x (count ts) ks flags) t)) in
-        let go : Run = run_trees files top b ts (with_loop l frame) [] (λ vs. run_given_value files top b v (with_loop l frame) s.line no_block (λ given. with_block t (with_loop l frame) given (send_with files top b (with_loop l frame) s.line self x ks vs false))) in
-        on seq frame c p (self ∷ (self ∷ st)) w (start l s) (BranchNil (p + 1 + size rest)) (p + 1) (self ∷ st) w pl.0 (branch_on (is_nil self) p (p + 1 + size rest) (self ∷ st) w other.0)
-        (args_does ts l seq frame out h (p + 1) 1 _ sd fts pl.2 c st (self ∷ []) w fin []
-        (λ vs. run_given_value files top b v (with_loop l frame) s.line no_block (λ given. with_block t (with_loop l frame) given (send_with files top b (with_loop l frame) s.line self x ks vs false)))
-        e refl high le
-        (λ us q2 z2 pl2 e2 n2 b2 a2. value_does v l seq frame out h q2 (suc (count ts)) _ sd fv pl2 c st (pushed us (self ∷ st)) (pushed us (self ∷ [])) z2 fin s.line no_block
-        (λ given. with_block t (with_loop l frame) given (send_with files top b (with_loop l frame) s.line self x ks us false)) e2 high (let m1 = pushed_length us (self ∷ st) in omega (arith, high.tall)) (pushed_over us (self ∷ []) st) b2
-        (λ g q3 z3 stk3 extra3 pl3 e3 over3 only taken a3. call_ends t l seq frame out h q3 (own l s) (Send x (count ts) ks flags) pl3 c st z3 fin stk3 extra3 e3 high.tall over3
-        (λ j. sent files b seqs bodies j frame (own l s) self x ks us false g z3)
-        (send_acts seq frame q3 stk3 z3 (own l s) x (count ts) ks flags (is_with v) false g us self st valued bare (omega arith) taken)
-        _ (send_means t v l frame sd.of_first ft s.line self x ks us false g z3 only) a3) a2) (subst (λ y. A seq frame c fin st out (y w)) (other.1 go) k))
+    clauses_all : (cs : Rescues) (l : Where) (seq : Routine) (frame : Frame) → StandsIn l frame → FindsClauses seqs bodies l cs → TC l seq frame cs
+    clauses_all no_clause l seq frame sd fs = tt
+    clauses_all (clause ts x t cs) l seq frame sd fs = (trees_all ts l seq frame sd fs.0, fs.1, λ out h p pl. tree_does t l seq frame out h p sd fs.2 pl, clauses_all cs l seq frame sd fs.3)
