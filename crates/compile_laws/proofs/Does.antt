@@ -17,7 +17,7 @@ use Rattle.ruby_meaning.specs.Constants.{innermost}
 use Rattle.ruby_meaning.specs.Store.{array_cells, method_cells, string_cells, object_cells, variable_cells, cell_limit, new_object, new_string, is_true, is_a, has_name, variables_at, class_at, name_of_class_of}
 use Rattle.ruby_meaning.specs.Locals.{place_of, first_line_of, params_of, names_of_params}
 use Rattle.ruby_meaning.specs.Sequences.{sequence_number}
-use Rattle.ruby_meaning.specs.World.{Given, no_block, literal_block, Running, entered, World, Frame, to_loop, Outcome, Done, Raise, Break, Next, Return, Retry, Spent, Full, Run, world_of}
+use Rattle.ruby_meaning.specs.World.{Given, no_block, literal_block, Running, entered, World, Frame, to_loop, Outcome, Done, Raise, Break, Next, Return, Retry, Spent, Full, Run, world_of, text_of}
 use Rattle.ruby_meaning.specs.Steps.{changing, then_do, then, reading, choose, charged, make, make_string, exception_of, raise_new, line_in, stand_in, stand, broken}
 use Rattle.ruby_meaning.specs.Calls.{enter, enter_load, is_entered, with_step, with_entry, call_fault, call_fault_class, spread, spread_from, variable_of, set_in, settable, first_cost, with_variable, no_method}
 use Rattle.ruby_meaning.specs.Blocks.{run_given}
@@ -25,8 +25,8 @@ use Rattle.ruby_meaning.specs.Files.{Files}
 use Rattle.ruby_meaning.specs.Invoke.{call_method}
 use Rattle.ruby_meaning.specs.Definitions.{read_local, set_local_in, set_local, holder, read_global, fixed_global, set_global_if, with_global, name_cost, with_constant, set_goal, path_from, path_around, closure_here, with_closure, class_number, code_of, with_row, with_class_row, define_on, define_method}
 use Rattle.ruby_meaning.specs.Levels.{Scopes, Held, GoalHeld, GoalsHeld, NameHeld, is_held, level_of, slot_of}
-use Rattle.ruby_meaning.specs.Parts.{make_array, make_hash, make_range, of_values, leave_home, leave_block, leave_loop, given_value, match_found, match_class, handling, in_sequence}
-use Rattle.ruby_meaning.specs.Evaluation.{unless_nil, run_pairs, set_by_send, loop, set_exception, with_block, send_with, super_with, super_to, run, run_form, run_all, run_trees, run_other, run_last, run_receiver, run_given_value, run_clauses, run_clause, run_classes, run_defaults}
+use Rattle.ruby_meaning.specs.Parts.{piece_found, piece_of, make_joined, make_array, make_hash, make_range, of_values, leave_home, leave_block, leave_loop, given_value, match_found, match_class, handling, in_sequence}
+use Rattle.ruby_meaning.specs.Evaluation.{unless_nil, run_pairs, run_pieces, set_by_send, loop, set_exception, with_block, send_with, super_with, super_to, run, run_form, run_all, run_trees, run_other, run_last, run_receiver, run_given_value, run_clauses, run_clause, run_classes, run_defaults}
 use Rattle.code_meaning.specs.Code.{at_line, row_over, Routine, rows_at, Shape, done, op, ahead, part, size, Placed, finish}
 use Rattle.code_meaning.specs.Slots.{read_slot, set_slot, HaveNames}
 use Rattle.code_meaning.specs.Machine.{is_nil, pairs_of, Step, goes, pends, answer, drops, branch, with_value, with_args, with_top, block_answer, call_answer, is_valued, is_bare, literal_given, value_given, block_given, sent, super_to_method, super_sent, act, step, rescue_frame, ensure_frame, entered_in, entered_at, Runs, Follows}
@@ -35,7 +35,7 @@ use Rattle.code_meaning.proofs.Placing.{placed}
 use Rattle.compile_table.specs.Shapes as table
 use Rattle.compile_table.specs.Shapes.{Where, looped, line_or, line_at, own, start, count, is_self_form, self_flag, receiver_flag, value_flag, bare_flag, plain_send, number_of, with_literal, path_start, throw_by, named, in_rescue, in_ensure, get_local, shape, form_shape, count_pairs, pairs_shape, params_shape, all_shape, rest_shape, args_shape, path_shape, receiver_shape, value_shape, other_shape, last_shape, values_shape, clauses_shape, clause_shape, classes_shape, bodies_shape}
 use Rattle.compile_laws.specs.Likeness.{core, with_flag}
-use Rattle.compile_laws.specs.Finds.{part_routine, body_routine, FindsBlock, Finds, FindsForm, AllHeld, FindsPairs, FindsTrees, FindsOther, FindsRescue, FindsRescueForm, FindsEnsure, FindsEnsureForm, FindsClauses, FindsParams, Stands, StandsIn, entry}
+use Rattle.compile_laws.specs.Finds.{part_routine, body_routine, FindsBlock, Finds, FindsForm, AllHeld, FindsPairs, FindsPieces, FindsTrees, FindsOther, FindsRescue, FindsRescueForm, FindsEnsure, FindsEnsureForm, FindsClauses, FindsParams, Stands, StandsIn, entry}
 use Rattle.compile_laws.proofs.AlikeCalls.{raising_same, no_method_same, range_same, path_same, around_same, goal_same, method_defined_same, open_same, class_named_same, class_below_same, module_same, home_same, leave_same, given_same, given_block_same, call_same, super_same}
 use Rattle.compile_laws.proofs.After.{deeper_pending, leap_ahead, Pending, After, here, go, pend, answers, after_then}
 use Rattle.compile_laws.proofs.Ready.{Ready, KeepsReady}
@@ -1002,6 +1002,48 @@ module _ (files : Files) (b : Tree → Frame → Run) (seqs : ℕ → Routine) (
       (λ z b1 e1. hit_ends l seq frame c sd.of_first x line body_place (shape l t) (bodies_shape l cs line) (run_it l frame t) z its_bodies (λ q pl1. fs.2 [] (1 + 0) q pl1) fs.1 b1 e1)
       (λ q z pl1 over1 b1 e1. clauses_does cs l seq frame q n0 (far + n) s (body_place + n) sd fs.3 pl1 (named_tail seq.body.code seq.body.rows [] 1 x l line body_place (shape l t) (bodies_shape l cs line) its_bodies) c z (omega arith) b1 to_end e1) e
 
+  string_ready : (l : Where) (frame : Frame) (x : Bytes) (w : World) → G l frame w → G l frame (world_of (make_string x (λ n. Done (object n)) w))
+  string_ready l frame x w le = by_room (nat_le (w.cells + string_cells (length x)) cell_limit)
+    where
+      by_room : (y : Bool) → G l frame (world_of (charged y (string_cells (length x)) w (make (new_string x) (λ n. Done (object n)))))
+      by_room true = record { turns = le.turns; names = le.names }
+      by_room false = le
+
+  piece_ready : (l : Where) (frame : Frame) (v u : Value) (w : World) → G l frame w → G l frame (world_of (piece_of v u w))
+  piece_ready l frame v u w le = by_text (text_of w.objects u)
+    where
+      by_text : (o : Option Bytes) → G l frame (world_of (piece_found v u o w))
+      by_text None = string_ready l frame (codes "#<" ++ (name_of_class_of w.objects v ++ codes ">")) w le
+      by_text (Some x) = le
+
+  abbrev TPc : Where → Routine → Frame → Pieces → Type 0
+  TPc l seq frame no_piece = ⊤
+  TPc l seq frame (plain_piece x ps) = TPc l seq frame ps
+  TPc l seq frame (code_piece t ps) = T l seq frame t × TPc l seq frame ps
+
+  pieces_does : (ps : Pieces) (l : Where) (seq : Routine) (frame : Frame) (out : List CatchRow) (h p n0 d : ℕ) (s : Shape) → StandsIn l frame → TPc l seq frame ps → Placed seq.body.code seq.body.rows out h p (table.pieces_shape l (line_at l n0) d ps s)
+      → (c : Outcome) (st : List Value) (w : World) (fin : ℕ) (vs : List Value) (next : List Value → Run) → finish p (table.pieces_shape l (line_at l n0) d ps s) ≡ fin → length vs ≡ d → High l.clause frame.handled h st → G l frame w
+      → ((us : List Value) (q : ℕ) (z : World) → Placed seq.body.code seq.body.rows out h q s → finish q s ≡ fin → length us ≡ length vs + table.count_pieces ps → A seq frame c fin st out (next us z) → R seq frame c q (pushed us st) z)
+      → A seq frame c fin st out (run_pieces files top b ps (with_loop l frame) n0 vs next w) → R seq frame c p (pushed vs st) w
+  pieces_does no_piece l seq frame out h p n0 d s sd fs pl c st w fin vs next e m high le g k = g vs p w pl e (omega arith) k
+  pieces_does (plain_piece x ps) l seq frame out h p n0 d s sd fs pl c st w fin vs next e m high le g k =
+      answered seq frame c p (p + 1) (pushed vs st) (pushed vs st) [] w out (line_at l n0) (PutString x) (make_string x (λ n. Done (object n)) w) (make_string x (λ n. Done (object n)) w) pl.0 pl.1 refl refl refl
+      (after_then files b seqs bodies seq frame c (G l frame) (p + 1) fin (pushed vs st) (pushed vs []) st out (make_string x (λ n. Done (object n)) w) (λ v. run_pieces files top b ps (with_loop l frame) n0 (vs ++ v ∷ []) next) (pushed_over vs [] st) (string_ready l frame x w le)
+      (λ v z b1 k1. let m1 = length-append vs (v ∷ []) in
+      subst (λ y. R seq frame c (p + 1) y z) (pushed_last vs v st) (pieces_does ps l seq frame out h (p + 1) n0 (suc d) s sd fs pl.2 c st z fin (vs ++ v ∷ []) next e (omega arith) high b1 (λ us q z1 pl1 e1 n1 k2. g us q z1 pl1 e1 (omega arith) k2) k1)) k)
+  pieces_does (code_piece t ps) l seq frame out h p n0 d s sd fs pl c st w fin vs next e m high le g k =
+      let p1 = finish p (shape l t) in let line = line_at l n0 in let to = codes "to_s" in
+      tree_then seq frame out (h + d) p p1 fin l t (fs.0 out (h + d) p pl.0) c (pushed vs st) (pushed vs []) st w
+      (λ v. then (call_method files b (with_loop l frame) n0 v to [] no_block false) (λ u. then (piece_of v u) (λ y. run_pieces files top b ps (with_loop l frame) n0 (vs ++ y ∷ []) next))) high (let m1 = pushed_length vs st in omega (arith, high.tall)) (pushed_over vs [] st) le
+      (λ v z b1 k1. on seq frame c p1 (v ∷ pushed vs st) z line Dup (p1 + 1) (v ∷ (v ∷ pushed vs st)) z pl.1.0 refl
+      (answered seq frame c (p1 + 1) (p1 + 1 + 1) (v ∷ (v ∷ pushed vs st)) (v ∷ pushed vs st) (v ∷ []) z out line ObjToString (call_method files b frame line v to [] no_block false z) (call_method files b (with_loop l frame) n0 v to [] no_block false z) pl.1.2.0 pl.1.2.1 refl refl (call_at l frame sd.of_first n0 v to [] no_block false z)
+      (after_then files b seqs bodies seq frame c (G l frame) (p1 + 1 + 1) fin (v ∷ pushed vs st) (v ∷ pushed vs []) st out (call_method files b (with_loop l frame) n0 v to [] no_block false z) (λ u. then (piece_of v u) (λ y. run_pieces files top b ps (with_loop l frame) n0 (vs ++ y ∷ []) next)) (ap (λ y. v ∷ y) (pushed_over vs [] st))
+      (known.calls l.sight.scopes frame (with_loop l frame) refl n0 v to [] no_block false top z (omega arith) b1)
+      (λ u z1 b2 k2. answered seq frame c (p1 + 1 + 1) (p1 + 1 + 1 + 1) (u ∷ (v ∷ pushed vs st)) (pushed vs st) (u ∷ (v ∷ [])) z1 out line AnyToString (piece_of v u z1) (piece_of v u z1) pl.1.2.2.0 pl.1.2.2.1 refl refl refl
+      (after_then files b seqs bodies seq frame c (G l frame) (p1 + 1 + 1 + 1) fin (pushed vs st) (pushed vs []) st out (piece_of v u z1) (λ y. run_pieces files top b ps (with_loop l frame) n0 (vs ++ y ∷ []) next) (pushed_over vs [] st) (piece_ready l frame v u z1 b2)
+      (λ y z2 b3 k3. let m1 = length-append vs (y ∷ []) in
+      subst (λ x. R seq frame c (p1 + 1 + 1 + 1) x z2) (pushed_last vs y st) (pieces_does ps l seq frame out h (p1 + 1 + 1 + 1) n0 (suc d) s sd fs.1 pl.1.2.2.2 c st z2 fin (vs ++ y ∷ []) next e (omega arith) high b3 (λ us q z3 pl1 e1 n1 k4. g us q z3 pl1 e1 (omega arith) k4) k3)) k2)) k1))) k
+
   mutual
     pub tree_does : (t : Tree) (l : Where) (seq : Routine) (frame : Frame) (out : List CatchRow) (h p : ℕ) → StandsIn l frame → Finds seqs bodies l t → Placed seq.body.code seq.body.rows out h p (shape l t) → D l seq frame out h p (finish p (shape l t)) (run_it l frame t)
     tree_does (at s f) l seq frame out h p sd fs pl = form_does f l s seq frame out h p sd fs pl
@@ -1024,7 +1066,10 @@ module _ (files : Files) (b : Tree → Frame → Run) (seqs : ℕ → Routine) (
         on seq frame c p st w (own l s) (get_local l x) (p + 1) (read_local frame x w ∷ st) w pl.0 (ap (λ v. goes (p + 1) (v ∷ st) w) (known.reads l.sight.scopes frame top x w le fs)) k
     form_does (instance x) l s seq frame out h p sd fs pl = λ c st w high le k. on seq frame c p st w (own l s) (GetInstanceVariable x) (p + 1) (variable_of frame.self_value x w ∷ st) w pl.0 refl k
     form_does (global x) l s seq frame out h p sd fs pl = λ c st w high le k. on seq frame c p st w (own l s) (GetGlobal x) (p + 1) (read_global x w ∷ st) w pl.0 refl k
-    form_does (joined ps) l s seq frame out h p sd fs pl = λ c st w high le k. ?
+    form_does (joined ps) l s seq frame out h p sd fs pl = λ c st w high le k.
+        pieces_does ps l seq frame out h p s.line 0 _ sd (pieces_all ps l seq frame sd fs) pl c st w (finish p (form_shape l (joined ps) s)) [] make_joined refl refl high le
+        (λ vs q z pl1 e1 n1 k1. answered seq frame c q (q + 1) (pushed vs st) st (pushed vs []) z out (own l s) (ConcatStrings (table.count_pieces ps)) (make_joined vs z) (make_joined vs z) pl1.0 pl1.1
+        (args_off vs st (table.count_pieces ps) _ (omega arith)) (pushed_over vs [] st) refl (subst (λ y. A seq frame c y st out (make_joined vs z)) (sym e1) k1)) k
     form_does (array ts ks) l s seq frame out h p sd fs pl = λ c st w high le k.
         args_does ts l seq frame out h p 0 _ sd (trees_all ts l seq frame sd fs) pl c st [] w (finish p (form_shape l (array ts ks) s)) [] (λ vs. reading (spread ks vs) (λ us. make_array us Done)) refl refl high le
         (λ vs q z pl1 e1 n1 b1 k1. answers files b seqs bodies seq frame c q (q + 1) (pushed vs st) st (pushed vs []) z out (reading (spread ks vs) (λ us. make_array us Done) z)
@@ -1207,3 +1252,8 @@ module _ (files : Files) (b : Tree → Frame → Run) (seqs : ℕ → Routine) (
     clauses_all : (cs : Rescues) (l : Where) (seq : Routine) (frame : Frame) → StandsIn l frame → FindsClauses seqs bodies l cs → TC l seq frame cs
     clauses_all no_clause l seq frame sd fs = tt
     clauses_all (clause ts x t cs) l seq frame sd fs = (trees_all ts l seq frame sd fs.0, fs.1, λ out h p pl. tree_does t l seq frame out h p sd fs.2 pl, clauses_all cs l seq frame sd fs.3)
+
+    pieces_all : (ps : Pieces) (l : Where) (seq : Routine) (frame : Frame) → StandsIn l frame → FindsPieces seqs bodies l ps → TPc l seq frame ps
+    pieces_all no_piece l seq frame sd fs = tt
+    pieces_all (plain_piece x ps) l seq frame sd fs = pieces_all ps l seq frame sd fs
+    pieces_all (code_piece t ps) l seq frame sd fs = (λ out h p pl. tree_does t l seq frame out h p sd fs.0 pl, pieces_all ps l seq frame sd fs.1)
