@@ -1,6 +1,6 @@
 -- The code of a tree does what the tree means.
 use Rattle.std.proofs.Common.{zero, ◌≡◌, ℕ, suc, pred, ◌+◌, ◌-◌, ◌≤◌, ◌<◌, ◌⊎◌, inl, inr, Bool, true, false, not, cond, refl, sym, subst, ap, ◌∙◌, arith, List, [], ◌∷◌, ◌++◌, length, Option, Some, None, length-append, append_assoc}
-use Rattle.std.specs.Prelude.{⊤, slice_get, nat_le, codes, map, ◌*◌, pos, nat_eq}
+use Rattle.std.specs.Prelude.{⊤, nat_lt, slice_get, nat_le, codes, map, ◌*◌, pos, nat_eq}
 use Rattle.bs_outside.specs.Paths.{parent_of}
 use Rattle.ruby_tree.specs.Names.{Bytes}
 use Rattle.ruby_tree.specs.Tree.{SourcePosition, Goal, to_local, to_instance, to_global, to_constant, Tree, at, Form, nil_value, true_value, false_value, integer, symbol, text, self_value, file_name, folder_name, line_number, local, instance, global, joined, array, hash, range, constant_path, assign, assign_all, assign_attribute, assign_index, operate_attribute, or_attribute, and_attribute, operate_index, or_index, and_index, send, safe_send, yield, super, bare_super, bare_raise, statements, both, either, negated, if_else, while_loop, case_of, case_tests, return_with, break_with, next_with, retry, rescue, ensure, rescue_sequence, ensure_sequence, method, class, module_named, body, Trees, no_more, more, Other, without, with, Pairs, no_pair, pair, Pieces, no_piece, plain_piece, code_piece, Whens, no_when, when, Rescues, no_clause, clause, Params, no_param, required, optional, rest_param, block_param}
@@ -10,20 +10,21 @@ use Rattle.iseq_types.specs.declared.instructions.Literal.TheVariants.{True, Fal
 use Rattle.iseq_types.specs.declared.sequences.CatchKind.TheVariants as catches
 use Rattle.iseq_types.specs.declared.sequences.CatchRow.{CatchRow}
 use Rattle.iseq_types.specs.declared.sequences.SeqKind.TheVariants as kinds
-use Rattle.ruby_meaning.specs.Value.{Value, nil, yes, no, number, symbol_named, object, elements, Source, written}
-use Rattle.ruby_meaning.specs.Numbers.{object_class, type_error, frozen_error, name_error}
+use Rattle.ruby_meaning.specs.Value.{Value, nil, yes, no, number, symbol_named, object, elements, Source, written, class_or_module}
+use Rattle.ruby_meaning.specs.Numbers.{object_class, type_error, frozen_error, name_error, closed_classes}
 use Rattle.ruby_meaning.specs.Natives.Messages.{no_change}
-use Rattle.ruby_meaning.specs.Constants.{innermost}
-use Rattle.ruby_meaning.specs.Store.{array_cells, method_cells, string_cells, object_cells, variable_cells, cell_limit, new_object, new_string, is_true, is_a, has_name, variables_at, class_at, name_of_class_of}
-use Rattle.ruby_meaning.specs.Locals.{place_of, first_line_of, params_of, names_of_params}
+use Rattle.ruby_meaning.specs.Constants.{innermost, own_constant, name_behind}
+use Rattle.ruby_meaning.specs.Store.{class_cells, name_cells, environment_cells, is_one_of, class_name, array_cells, method_cells, string_cells, object_cells, variable_cells, cell_limit, new_object, new_string, is_true, is_a, has_name, variables_at, class_at, name_of_class_of}
+use Rattle.ruby_meaning.specs.Locals.{place_of, locals_of, first_line_of, params_of, names_of_params}
 use Rattle.ruby_meaning.specs.Sequences.{sequence_number}
-use Rattle.ruby_meaning.specs.World.{Given, no_block, literal_block, Running, entered, World, Frame, to_loop, Outcome, Done, Raise, Break, Next, Return, Retry, Spent, Full, Run, world_of, text_of}
-use Rattle.ruby_meaning.specs.Steps.{changing, then_do, then, reading, choose, charged, make, make_string, exception_of, raise_new, line_in, stand_in, stand, broken}
-use Rattle.ruby_meaning.specs.Calls.{enter, enter_load, is_entered, with_step, with_entry, call_fault, call_fault_class, spread, spread_from, variable_of, set_in, settable, first_cost, with_variable, no_method}
+use Rattle.ruby_meaning.specs.World.{Given, no_block, literal_block, Running, entered, World, Frame, to_loop, Outcome, Done, Raise, Break, Next, Return, Retry, Spent, Full, Run, world_of, text_of, frame_limit}
+use Rattle.ruby_meaning.specs.Steps.{changing, then_do, then, reading, choose, charge, charged, ended, at_depth, deeper_if, make, make_string, exception_of, raise_new, line_in, stand_in, stand, broken}
+use Rattle.ruby_meaning.specs.Calls.{all_nil, with_environment, next_environment, enter, enter_load, is_entered, with_step, with_entry, call_fault, call_fault_class, spread, spread_from, variable_of, set_in, settable, first_cost, with_variable, no_method}
 use Rattle.ruby_meaning.specs.Blocks.{run_given}
 use Rattle.ruby_meaning.specs.Files.{Files}
 use Rattle.ruby_meaning.specs.Invoke.{call_method}
 use Rattle.ruby_meaning.specs.Definitions.{read_local, set_local_in, set_local, holder, read_global, fixed_global, set_global_if, with_global, name_cost, with_constant, set_goal, path_from, path_around, closure_here, with_closure, class_number, code_of, with_row, with_class_row, define_on, define_method}
+use Rattle.ruby_meaning.specs.ClassBodies.{class_alone, module_alone, same_class, class_frame, open_class, make_class, refused, open_found, class_or_new, module_or_new, if_same_superclass, below_base, with_base, class_below, class_named, module_of_name}
 use Rattle.ruby_meaning.specs.Levels.{Scopes, Held, GoalHeld, GoalsHeld, NameHeld, is_held, level_of, slot_of}
 use Rattle.ruby_meaning.specs.Parts.{piece_found, piece_of, make_joined, make_array, make_hash, make_range, of_values, leave_home, leave_block, leave_loop, given_value, match_found, match_class, handling, in_sequence}
 use Rattle.ruby_meaning.specs.Evaluation.{unless_nil, run_pairs, run_pieces, set_by_send, loop, set_exception, with_block, send_with, super_with, super_to, run, run_form, run_all, run_trees, run_other, run_last, run_receiver, run_given_value, run_clauses, run_clause, run_classes, run_defaults}
@@ -1044,6 +1045,77 @@ module _ (files : Files) (b : Tree → Frame → Run) (seqs : ℕ → Routine) (
       (λ y z2 b3 k3. let m1 = length-append vs (y ∷ []) in
       subst (λ x. R seq frame c (p1 + 1 + 1 + 1) x z2) (pushed_last vs y st) (pieces_does ps l seq frame out h (p1 + 1 + 1 + 1) n0 (suc d) s sd fs.1 pl.1.2.2.2 c st z2 fin (vs ++ y ∷ []) next e (omega arith) high b3 (λ us q z3 pl1 e1 n1 k4. g us q z3 pl1 e1 (omega arith) k4) k3)) k2)) k1))) k
 
+  -- class bodies: a body is run as the evaluation does it
+  module _ (frame : Frame) (line : ℕ) (t : Tree) where
+    abbrev opens_run : ℕ → Run
+    opens_run = open_class frame line t (run files top b t)
+
+    abbrev opens_b : ℕ → Run
+    opens_b = open_class frame line t (b t)
+
+    opened_fixed : (n : ℕ) (w : World) → w.turns ≤ top → opens_run n w ≡ opens_b n w
+    opened_fixed n w le = by_depth (nat_lt w.depth frame_limit)
+      where
+        by_room : (x : Bool) (z : World) → z.turns ≤ top → charged x (environment_cells (length (locals_of [] t))) z (reading next_environment (λ m. changing (with_environment None (all_nil (locals_of [] t))) (run files top b t (class_frame frame line t n m))))
+            ≡ charged x (environment_cells (length (locals_of [] t))) z (reading next_environment (λ m. changing (with_environment None (all_nil (locals_of [] t))) (b t (class_frame frame line t n m))))
+        by_room true z lt = known.fixed t _ _ lt
+        by_room false z lt = refl
+
+        by_depth : (x : Bool) → deeper_if x frame line (changing (enter frame.code.source (place_of t)) (charge (environment_cells (length (locals_of [] t))) (reading next_environment (λ m. changing (with_environment None (all_nil (locals_of [] t))) (run files top b t (class_frame frame line t n m)))))) w
+            ≡ deeper_if x frame line (changing (enter frame.code.source (place_of t)) (charge (environment_cells (length (locals_of [] t))) (reading next_environment (λ m. changing (with_environment None (all_nil (locals_of [] t))) (b t (class_frame frame line t n m)))))) w
+        by_depth true = ap (ended (at_depth w.depth)) (by_room _ (enter frame.code.source (place_of t) (at_depth (suc w.depth) w)) (omega (arith, enter_turns frame.code.source (place_of t) (at_depth (suc w.depth) w))))
+        by_depth false = refl
+
+    found_fixed : (x kind : Bytes) (o : Option ℕ) (w : World) → w.turns ≤ top → open_found frame line x kind opens_run o w ≡ open_found frame line x kind opens_b o w
+    found_fixed x kind None w le = refl
+    found_fixed x kind (Some n) w le = opened_fixed n w le
+
+    made_fixed : (x : Bytes) (is_module : Bool) (base : Option ℕ) (w : World) → w.turns ≤ top → make_class frame x is_module base opens_run w ≡ make_class frame x is_module base opens_b w
+    made_fixed x is_module base w le = by_room (nat_le (w.cells + (class_cells + name_cells)) cell_limit)
+      where
+        by_room : (y : Bool) → charged y (class_cells + name_cells) w (make (new_object (class_or_module (record { name = name_behind w.objects (innermost frame.code.classes) x; is_module = is_module; superclass = base; modules = []; methods = []; class_methods = []; constants = [] }))) (λ n. changing (with_constant (innermost frame.code.classes) x (object n)) (opens_run n)))
+            ≡ charged y (class_cells + name_cells) w (make (new_object (class_or_module (record { name = name_behind w.objects (innermost frame.code.classes) x; is_module = is_module; superclass = base; modules = []; methods = []; class_methods = []; constants = [] }))) (λ n. changing (with_constant (innermost frame.code.classes) x (object n)) (opens_b n)))
+        by_room true = opened_fixed _ _ le
+        by_room false = refl
+
+    named_fixed : (x : Bytes) (w : World) → w.turns ≤ top → class_named frame line x opens_run w ≡ class_named frame line x opens_b w
+    named_fixed x w le = by_found (own_constant w.objects (innermost frame.code.classes) x)
+      where
+        by_found : (o : Option Value) → class_or_new frame line x opens_run o w ≡ class_or_new frame line x opens_b o w
+        by_found None = made_fixed x false (Some object_class) w le
+        by_found (Some v) = found_fixed x (codes "class") (class_alone w.objects v) w le
+
+    module_fixed : (x : Bytes) (w : World) → w.turns ≤ top → module_of_name frame line x opens_run w ≡ module_of_name frame line x opens_b w
+    module_fixed x w le = by_found (own_constant w.objects (innermost frame.code.classes) x)
+      where
+        by_found : (o : Option Value) → module_or_new frame line x opens_run o w ≡ module_or_new frame line x opens_b o w
+        by_found None = made_fixed x true None w le
+        by_found (Some v) = found_fixed x (codes "module") (module_alone w.objects v) w le
+
+    below_fixed : (x : Bytes) (v : Value) (w : World) → w.turns ≤ top → class_below frame line x v opens_run w ≡ class_below frame line x v opens_b w
+    below_fixed x v w le = by_base (class_alone w.objects v)
+      where
+        if_same : (n : ℕ) (y : Bool) → choose y (opens_run n) (refused frame line (codes "superclass mismatch for class " ++ x)) w ≡ choose y (opens_b n) (refused frame line (codes "superclass mismatch for class " ++ x)) w
+        if_same n true = opened_fixed n w le
+        if_same n false = refl
+
+        by_class : (base : ℕ) (o : Option ℕ) → open_found frame line x (codes "class") (if_same_superclass frame line x opens_run base) o w ≡ open_found frame line x (codes "class") (if_same_superclass frame line x opens_b base) o w
+        by_class base None = refl
+        by_class base (Some n) = if_same n (same_class (class_at w.objects n).superclass base)
+
+        closed : (base : ℕ) (y : Bool) → choose y (reading (λ z. class_name z.objects base) (λ name. refused frame line (codes "can't inherit from " ++ name))) (make_class frame x false (Some base) opens_run) w
+            ≡ choose y (reading (λ z. class_name z.objects base) (λ name. refused frame line (codes "can't inherit from " ++ name))) (make_class frame x false (Some base) opens_b) w
+        closed base true = refl
+        closed base false = made_fixed x false (Some base) w le
+
+        by_found : (base : ℕ) (o : Option Value) → below_base frame line x opens_run base o w ≡ below_base frame line x opens_b base o w
+        by_found base None = closed base (is_one_of base closed_classes)
+        by_found base (Some u) = by_class base (class_alone w.objects u)
+
+        by_base : (o : Option ℕ) → with_base frame line x opens_run o w ≡ with_base frame line x opens_b o w
+        by_base None = refl
+        by_base (Some base) = by_found base (own_constant w.objects (innermost frame.code.classes) x)
+
   mutual
     pub tree_does : (t : Tree) (l : Where) (seq : Routine) (frame : Frame) (out : List CatchRow) (h p : ℕ) → StandsIn l frame → Finds seqs bodies l t → Placed seq.body.code seq.body.rows out h p (shape l t) → D l seq frame out h p (finish p (shape l t)) (run_it l frame t)
     tree_does (at s f) l seq frame out h p sd fs pl = form_does f l s seq frame out h p sd fs pl
@@ -1199,8 +1271,22 @@ module _ (files : Files) (b : Tree → Frame → Run) (seqs : ℕ → Routine) (
         dropped seq frame c p (p + 1) (p + 1 + 1) st st st [] w out (own l s) (DefineMethod x (suc (number_of l t)) (table.on_self f)) (define_method frame (own l s) x t f w) (λ u. Done (symbol_named x)) pl.0 pl.1
         (method_acts f seq frame p (own l s) st w x (number_of l t) t fs) refl (λ u z k1. on seq frame c (p + 1) st z (own l s) (PutObject (Sym x)) (p + 1 + 1) (symbol_named x ∷ st) z pl.2.0 refl k1)
         (subst (λ o. A seq frame c (p + 1 + 1) st out o) (ap (λ g. g w) (method_defined_same (with_loop l frame) frame s.line (own l s) refl (own_lines l frame sd.of_first s.line) x t f) ∙ defined_value frame (own l s) x t f w) k)
-    form_does (class o x t) l s seq frame out h p sd fs pl = λ c st w high le k. ?
-    form_does (module_named x t) l s seq frame out h p sd fs pl = λ c st w high le k. ?
+    form_does (class without x t) l s seq frame out h p sd fs pl = λ c st w high le k.
+        on seq frame c p st w (own l s) PutNil (p + 1) (nil ∷ st) w pl.0 refl
+        (answered seq frame c (p + 1) (p + 1 + 1) (nil ∷ st) st (nil ∷ []) w out (own l s) (DefineClass x (suc (number_of l t)) 0) (class_named frame (own l s) x (open_class frame (own l s) t (b t)) w) (class_named (with_loop l frame) s.line x (open_class (with_loop l frame) s.line t (run files top b t)) w) pl.2.0 pl.2.1
+        (ap (λ y. answer (p + 1 + 1) st (class_named frame (own l s) x (open_class frame (own l s) y (b y)) w)) fs.1) refl
+        (ap (λ f. f w) (class_named_same (with_loop l frame) frame s.line (own l s) refl (own_lines l frame sd.of_first s.line) x _ _ (λ i n. open_same (with_loop l frame) frame s.line (own l s) refl (own_lines l frame sd.of_first s.line) t (run files top b t) n i)) ∙ named_fixed frame (own l s) t x w le.turns) k)
+    form_does (class (with e) x t) l s seq frame out h p sd fs pl = λ c st w high le k.
+        let p1 = finish p (shape l e) in
+        tree_then seq frame out (h + 0) p p1 (p1 + 1) l e (tree_does e l seq frame out (h + 0) p sd fs.0 pl.0) c st [] st w (λ v. class_below (with_loop l frame) s.line x v (open_class (with_loop l frame) s.line t (run files top b t))) high (omega arith) refl le
+        (λ v z b1 k1. answered seq frame c p1 (p1 + 1) (v ∷ st) st (v ∷ []) z out (own l s) (DefineClass x (suc (number_of l t)) 1) (class_below frame (own l s) x v (open_class frame (own l s) t (b t)) z) (class_below (with_loop l frame) s.line x v (open_class (with_loop l frame) s.line t (run files top b t)) z) pl.1.0 pl.1.1
+        (ap (λ y. answer (p1 + 1) st (class_below frame (own l s) x v (open_class frame (own l s) y (b y)) z)) fs.1) refl
+        (ap (λ f. f z) (class_below_same (with_loop l frame) frame s.line (own l s) refl (own_lines l frame sd.of_first s.line) x v _ _ (λ i n. open_same (with_loop l frame) frame s.line (own l s) refl (own_lines l frame sd.of_first s.line) t (run files top b t) n i)) ∙ below_fixed frame (own l s) t x v z b1.turns) k1) k
+    form_does (module_named x t) l s seq frame out h p sd fs pl = λ c st w high le k.
+        on seq frame c p st w (own l s) PutNil (p + 1) (nil ∷ st) w pl.0 refl
+        (answered seq frame c (p + 1) (p + 1 + 1) (nil ∷ st) st (nil ∷ []) w out (own l s) (DefineClass x (suc (number_of l t)) 2) (module_of_name frame (own l s) x (open_class frame (own l s) t (b t)) w) (module_of_name (with_loop l frame) s.line x (open_class (with_loop l frame) s.line t (run files top b t)) w) pl.2.0 pl.2.1
+        (ap (λ y. answer (p + 1 + 1) st (module_of_name frame (own l s) x (open_class frame (own l s) y (b y)) w)) fs) refl
+        (ap (λ f. f w) (module_same (with_loop l frame) frame s.line (own l s) refl (own_lines l frame sd.of_first s.line) x _ _ (λ i n. open_same (with_loop l frame) frame s.line (own l s) refl (own_lines l frame sd.of_first s.line) t (run files top b t) n i)) ∙ module_fixed frame (own l s) t x w le.turns) k)
     form_does (rescue_sequence cs) l s seq frame out h p sd fs pl = absurd fs
     form_does (ensure_sequence a) l s seq frame out h p sd fs pl = absurd fs
     form_does (body ps t) l s seq frame out h p sd fs pl = absurd fs
