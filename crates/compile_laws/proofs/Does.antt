@@ -10,15 +10,15 @@ use Rattle.iseq_types.specs.declared.instructions.Literal.TheVariants.{True, Fal
 use Rattle.iseq_types.specs.declared.sequences.CatchKind.TheVariants as catches
 use Rattle.iseq_types.specs.declared.sequences.CatchRow.{CatchRow}
 use Rattle.iseq_types.specs.declared.sequences.SeqKind.TheVariants as kinds
-use Rattle.ruby_meaning.specs.Value.{Value, nil, yes, no, number, symbol_named, object, elements, Source, written, class_or_module}
+use Rattle.ruby_meaning.specs.Value.{Value, nil, yes, no, number, symbol_named, object, elements, Source, written, class_or_module, Object}
 use Rattle.ruby_meaning.specs.Numbers.{object_class, type_error, frozen_error, name_error, closed_classes}
 use Rattle.ruby_meaning.specs.Natives.Messages.{no_change}
 use Rattle.ruby_meaning.specs.Constants.{innermost, own_constant, name_behind}
-use Rattle.ruby_meaning.specs.Store.{class_cells, name_cells, environment_cells, is_one_of, class_name, array_cells, method_cells, string_cells, object_cells, variable_cells, cell_limit, new_object, new_string, is_true, is_a, has_name, variables_at, class_at, name_of_class_of}
+use Rattle.ruby_meaning.specs.Store.{next_number, class_cells, name_cells, environment_cells, is_one_of, class_name, array_cells, method_cells, string_cells, object_cells, variable_cells, cell_limit, new_object, new_string, is_true, is_a, has_name, variables_at, class_at, name_of_class_of}
 use Rattle.ruby_meaning.specs.Locals.{place_of, locals_of, first_line_of, params_of, names_of_params}
 use Rattle.ruby_meaning.specs.Sequences.{sequence_number}
 use Rattle.ruby_meaning.specs.World.{Given, no_block, literal_block, Running, entered, World, Frame, to_loop, Outcome, Done, Raise, Break, Next, Return, Retry, Spent, Full, Run, world_of, text_of, frame_limit}
-use Rattle.ruby_meaning.specs.Steps.{changing, then_do, then, reading, choose, charge, charged, ended, at_depth, deeper_if, make, make_string, exception_of, raise_new, line_in, stand_in, stand, broken}
+use Rattle.ruby_meaning.specs.Steps.{changing, then_do, then, reading, choose, charge, charged, ended, at_depth, deeper_if, with_object, make, make_string, exception_of, raise_new, line_in, stand_in, stand, broken}
 use Rattle.ruby_meaning.specs.Calls.{all_nil, with_environment, next_environment, enter, enter_load, is_entered, with_step, with_entry, call_fault, call_fault_class, spread, spread_from, variable_of, set_in, settable, first_cost, with_variable, no_method}
 use Rattle.ruby_meaning.specs.Blocks.{run_given}
 use Rattle.ruby_meaning.specs.Files.{Files}
@@ -1070,13 +1070,17 @@ module _ (files : Files) (b : Tree → Frame → Run) (seqs : ℕ → Routine) (
     found_fixed x kind None w le = refl
     found_fixed x kind (Some n) w le = opened_fixed n w le
 
+    object_fixed : (x : Bytes) (o : Object) (z : World) → z.turns ≤ top → make o (λ n. changing (with_constant (innermost frame.code.classes) x (object n)) (opens_run n)) z ≡ make o (λ n. changing (with_constant (innermost frame.code.classes) x (object n)) (opens_b n)) z
+    object_fixed x o z le = opened_fixed (next_number z.objects) (with_constant (innermost frame.code.classes) x (object (next_number z.objects)) (with_object o z)) le
+
+    room_fixed : (y : Bool) (x : Bytes) (o : Object) (w : World) → w.turns ≤ top → charged y (class_cells + name_cells) w (make o (λ n. changing (with_constant (innermost frame.code.classes) x (object n)) (opens_run n)))
+        ≡ charged y (class_cells + name_cells) w (make o (λ n. changing (with_constant (innermost frame.code.classes) x (object n)) (opens_b n)))
+    room_fixed true x o w le = object_fixed x o (record w { cells = w.cells + (class_cells + name_cells) }) le
+    room_fixed false x o w le = refl
+
     made_fixed : (x : Bytes) (is_module : Bool) (base : Option ℕ) (w : World) → w.turns ≤ top → make_class frame x is_module base opens_run w ≡ make_class frame x is_module base opens_b w
-    made_fixed x is_module base w le = by_room (nat_le (w.cells + (class_cells + name_cells)) cell_limit)
-      where
-        by_room : (y : Bool) → charged y (class_cells + name_cells) w (make (new_object (class_or_module (record { name = name_behind w.objects (innermost frame.code.classes) x; is_module = is_module; superclass = base; modules = []; methods = []; class_methods = []; constants = [] }))) (λ n. changing (with_constant (innermost frame.code.classes) x (object n)) (opens_run n)))
-            ≡ charged y (class_cells + name_cells) w (make (new_object (class_or_module (record { name = name_behind w.objects (innermost frame.code.classes) x; is_module = is_module; superclass = base; modules = []; methods = []; class_methods = []; constants = [] }))) (λ n. changing (with_constant (innermost frame.code.classes) x (object n)) (opens_b n)))
-        by_room true = opened_fixed _ _ le
-        by_room false = refl
+    made_fixed x is_module base w le = room_fixed (nat_le (w.cells + (class_cells + name_cells)) cell_limit) x
+        (new_object (class_or_module (record { name = name_behind w.objects (innermost frame.code.classes) x; is_module = is_module; superclass = base; modules = []; methods = []; class_methods = []; constants = [] }))) w le
 
     named_fixed : (x : Bytes) (w : World) → w.turns ≤ top → class_named frame line x opens_run w ≡ class_named frame line x opens_b w
     named_fixed x w le = by_found (own_constant w.objects (innermost frame.code.classes) x)
