@@ -23,14 +23,14 @@ use Rattle.ruby_meaning.specs.Calls.{all_nil, with_environment, next_environment
 use Rattle.ruby_meaning.specs.Blocks.{run_given}
 use Rattle.ruby_meaning.specs.Files.{Files}
 use Rattle.ruby_meaning.specs.Invoke.{call_method}
-use Rattle.ruby_meaning.specs.Definitions.{read_local, set_local_in, set_local, holder, read_global, fixed_global, set_global_if, with_global, name_cost, with_constant, set_goal, path_from, path_around, closure_here, with_closure, class_number, code_of, with_row, with_class_row, define_on, define_method}
+use Rattle.ruby_meaning.specs.Definitions.{read_local, set_local_in, set_local, holder, read_global, fixed_global, set_goals, set_global_if, with_global, name_cost, with_constant, set_goal, path_from, path_around, closure_here, with_closure, class_number, code_of, with_row, with_class_row, define_on, define_method}
 use Rattle.ruby_meaning.specs.ClassBodies.{class_alone, module_alone, same_class, class_frame, open_class, make_class, refused, open_found, class_or_new, module_or_new, if_same_superclass, below_base, with_base, class_below, class_named, module_of_name}
 use Rattle.ruby_meaning.specs.Levels.{Scopes, Held, GoalHeld, GoalsHeld, NameHeld, is_held, level_of, slot_of}
-use Rattle.ruby_meaning.specs.Parts.{piece_found, piece_of, make_joined, make_array, make_hash, make_range, of_values, leave_home, leave_block, leave_loop, given_value, match_found, match_class, handling, in_sequence}
+use Rattle.ruby_meaning.specs.Parts.{parts_of, piece_found, piece_of, make_joined, make_array, make_hash, make_range, of_values, leave_home, leave_block, leave_loop, given_value, match_found, match_class, handling, in_sequence}
 use Rattle.ruby_meaning.specs.Evaluation.{unless_nil, run_pairs, run_pieces, set_by_send, loop, set_exception, with_block, send_with, super_with, super_to, run, run_form, run_all, run_trees, run_other, run_last, run_receiver, run_given_value, run_clauses, run_clause, run_classes, run_defaults}
 use Rattle.code_meaning.specs.Code.{at_line, row_over, Routine, rows_at, Shape, done, op, ahead, part, size, Placed, finish}
 use Rattle.code_meaning.specs.Slots.{read_slot, set_slot, HaveNames}
-use Rattle.code_meaning.specs.Machine.{is_nil, pairs_of, Step, goes, pends, answer, drops, branch, with_value, with_args, with_top, block_answer, call_answer, is_valued, is_bare, literal_given, value_given, block_given, sent, super_to_method, super_sent, act, step, rescue_frame, ensure_frame, entered_in, entered_at, Runs, Follows}
+use Rattle.code_meaning.specs.Machine.{first_values, is_nil, pairs_of, Step, goes, pends, answer, drops, branch, with_value, with_args, with_top, block_answer, call_answer, is_valued, is_bare, literal_given, value_given, block_given, sent, super_to_method, super_sent, act, step, rescue_frame, ensure_frame, entered_in, entered_at, Runs, Follows}
 use Rattle.code_meaning.proofs.Sizes.{finish_size}
 use Rattle.code_meaning.proofs.Placing.{placed}
 use Rattle.compile_table.specs.Shapes as table
@@ -371,23 +371,23 @@ module _ (files : Files) (b : Tree → Frame → Run) (seqs : ℕ → Routine) (
   goal_acts (to_constant x) l seq frame p line v st z held le = refl
 
   -- an instruction that is an outcome, whose value is dropped
-  dropped : (seq : Routine) (frame : Frame) (c : Outcome) (p p1 fin : ℕ) (stk base st extra : List Value) (w : World) (out : List CatchRow) (line : ℕ) (i : Instr) (o : Outcome) (next : Value → Run)
-      → slice_get seq.body.code p ≡ Some (at_line line i) → rows_at p seq.body.rows ≡ out → act files b seqs bodies seq.kind frame p stk w line i ≡ drops p1 base o → stk ≡ extra ++ st
-      → ((u : Value) (z : World) → A seq frame c fin st out (next u z) → R seq frame c p1 base z) → A seq frame c fin st out (then_do o next) → R seq frame c p stk w
-  dropped seq frame c p p1 fin stk base st extra w out line i o next fetch rows f over g k = by_outcome o f k
+  dropped : (seq : Routine) (frame : Frame) (c : Outcome) (p p1 fin : ℕ) (stk base st extra : List Value) (w : World) (out : List CatchRow) (line : ℕ) (i : Instr) (o : Outcome) (next : Value → Run) (P : World → Type 0)
+      → slice_get seq.body.code p ≡ Some (at_line line i) → rows_at p seq.body.rows ≡ out → act files b seqs bodies seq.kind frame p stk w line i ≡ drops p1 base o → stk ≡ extra ++ st → P (world_of o)
+      → ((u : Value) (z : World) → P z → A seq frame c fin st out (next u z) → R seq frame c p1 base z) → A seq frame c fin st out (then_do o next) → R seq frame c p stk w
+  dropped seq frame c p p1 fin stk base st extra w out line i o next P fetch rows f over ready g k = by_outcome o f ready k
     where
       pending : (o : Outcome) → act files b seqs bodies seq.kind frame p stk w line i ≡ pends o → Pending files b seqs bodies seq frame c st out o → R seq frame c p stk w
       pending o e k = pend files b seqs bodies seq frame c p stk w out o (here files b seqs bodies seq frame c p stk w line i fetch ∙ e) rows (subst (λ x. Follows files b seqs bodies seq frame out x (pends o) c) (sym over) (k extra))
 
-      by_outcome : (o : Outcome) → act files b seqs bodies seq.kind frame p stk w line i ≡ drops p1 base o → A seq frame c fin st out (then_do o next) → R seq frame c p stk w
-      by_outcome (Done u z) e k = on seq frame c p stk w line i p1 base z fetch e (g u z k)
-      by_outcome (Raise u z) e k = pending (Raise u z) e k
-      by_outcome (Break t u z) e k = pending (Break t u z) e k
-      by_outcome (Next u z) e k = pending (Next u z) e k
-      by_outcome (Return n u z) e k = pending (Return n u z) e k
-      by_outcome (Retry z) e k = pending (Retry z) e k
-      by_outcome (Spent z) e k = pending (Spent z) e k
-      by_outcome (Full z) e k = pending (Full z) e k
+      by_outcome : (o : Outcome) → act files b seqs bodies seq.kind frame p stk w line i ≡ drops p1 base o → P (world_of o) → A seq frame c fin st out (then_do o next) → R seq frame c p stk w
+      by_outcome (Done u z) e r k = on seq frame c p stk w line i p1 base z fetch e (g u z r k)
+      by_outcome (Raise u z) e r k = pending (Raise u z) e k
+      by_outcome (Break t u z) e r k = pending (Break t u z) e k
+      by_outcome (Next u z) e r k = pending (Next u z) e k
+      by_outcome (Return n u z) e r k = pending (Return n u z) e k
+      by_outcome (Retry z) e r k = pending (Retry z) e k
+      by_outcome (Spent z) e r k = pending (Spent z) e k
+      by_outcome (Full z) e r k = pending (Full z) e k
 
   -- ---- parts of sequences
 
@@ -669,8 +669,8 @@ module _ (files : Files) (b : Tree → Frame → Run) (seqs : ℕ → Routine) (
         let p1 = finish p (shape l t) in
         tree_then seq frame out (h + 0) p p1 (p1 + 1 + 1) l t (dt out (h + 0) p pl.0) c st [] st w (set_goal (with_loop l frame) s.line g) high (omega arith) refl le
         (λ v z b1 a. on seq frame c p1 (v ∷ st) z (own l s) Dup (p1 + 1) (v ∷ (v ∷ st)) z pl.1.0 refl
-        (dropped seq frame c (p1 + 1) (p1 + 1 + 1) (p1 + 1 + 1) (v ∷ (v ∷ st)) (v ∷ st) st (v ∷ (v ∷ [])) z out (own l s) (table.set_goal l g) (set_goal frame (own l s) g v z) (λ u. Done v) pl.1.2.0 pl.1.2.1
-        (goal_acts g l seq frame (p1 + 1) (own l s) v (v ∷ st) z fs.1 b1) refl (λ u z1 k1. k1)
+        (dropped seq frame c (p1 + 1) (p1 + 1 + 1) (p1 + 1 + 1) (v ∷ (v ∷ st)) (v ∷ st) st (v ∷ (v ∷ [])) z out (own l s) (table.set_goal l g) (set_goal frame (own l s) g v z) (λ u. Done v) (λ y. ⊤) pl.1.2.0 pl.1.2.1
+        (goal_acts g l seq frame (p1 + 1) (own l s) v (v ∷ st) z fs.1 b1) refl tt (λ u z1 y k1. k1)
         (subst (λ o. A seq frame c (p1 + 1 + 1) st out o) (ap (λ f. f z) (goal_same (with_loop l frame) frame s.line (own l s) refl (own_lines l frame sd.of_first s.line) g v) ∙ set_value frame (own l s) g v z) a))) k
 
   form_assign_attribute_ends : (a : Tree) (t : Tree) (m : Bytes) (l : Where) (s : SourcePosition) (seq : Routine) (frame : Frame) (out : List CatchRow) (h p : ℕ) → StandsIn l frame → T l seq frame a → T l seq frame t → FindsForm seqs bodies l (assign_attribute a t m) → Placed seq.body.code seq.body.rows out h p (form_shape l (assign_attribute a t m) s)
@@ -1120,6 +1120,71 @@ module _ (files : Files) (b : Tree → Frame → Run) (seqs : ℕ → Routine) (
         by_base None = refl
         by_base (Some base) = by_found base (own_constant w.objects (innermost frame.code.classes) x)
 
+  then_assoc : (o : Outcome) (f g : Value → Run) → then_do (then_do o f) g ≡ then_do o (λ u. then (f u) g)
+  then_assoc (Done v z) f g = refl
+  then_assoc (Raise v z) f g = refl
+  then_assoc (Break t v z) f g = refl
+  then_assoc (Next v z) f g = refl
+  then_assoc (Return n v z) f g = refl
+  then_assoc (Retry z) f g = refl
+  then_assoc (Spent z) f g = refl
+  then_assoc (Full z) f g = refl
+
+  raised_ready : (l : Where) (frame it : Frame) (line k : ℕ) (message : Bytes) (w : World) → G l frame w → G l frame (world_of (raise_new it line k message w))
+  raised_ready l frame it line k message w le = by_room (nat_le (w.cells + (string_cells (length message) + object_cells + variable_cells)) cell_limit)
+    where
+      by_room : (x : Bool) → G l frame (world_of (charged x (string_cells (length message) + object_cells + variable_cells) w (make (new_string message) (λ n. make (exception_of k n (stand it line)) (λ m. Raise (object m))))))
+      by_room true = record { turns = le.turns; names = le.names }
+      by_room false = le
+
+  goal_ready : (l : Where) (frame : Frame) (line : ℕ) (g : Goal) (v : Value) (w : World) → G l frame w → G l frame (world_of (set_goal frame line g v w))
+  goal_ready l frame line (to_local x) v w le = known.locals l.sight.scopes frame top x v w le
+  goal_ready l frame line (to_instance x) v w le = by_place (settable w.objects frame.self_value)
+    where
+      by_room : (y : Bool) (n : ℕ) → G l frame (world_of (charged y (first_cost (has_name x (variables_at w.objects n))) w (changing (with_variable n x v) (Done v))))
+      by_room true n = record { turns = le.turns; names = le.names }
+      by_room false n = le
+
+      by_place : (o : Option ℕ) → G l frame (world_of (set_in frame line frame.self_value x v o w))
+      by_place None = raised_ready l frame frame line frozen_error (no_change (name_of_class_of w.objects frame.self_value)) w le
+      by_place (Some n) = by_room (nat_le (w.cells + first_cost (has_name x (variables_at w.objects n))) cell_limit) n
+  goal_ready l frame line (to_global x) v w le = by_fixed (fixed_global x)
+    where
+      by_room : (y : Bool) → G l frame (world_of (charged y (name_cost (has_name x w.globals)) w (changing (with_global x v) (Done v))))
+      by_room true = record { turns = le.turns; names = le.names }
+      by_room false = le
+
+      by_fixed : (o : Option Value) → G l frame (world_of (set_global_if frame line x v o w))
+      by_fixed None = by_room (nat_le (w.cells + name_cost (has_name x w.globals)) cell_limit)
+      by_fixed (Some y) = raised_ready l frame frame line name_error (x ++ codes " is a read-only variable") w le
+  goal_ready l frame line (to_constant x) v w le = by_room (nat_le (w.cells + name_cost (has_name x (class_at w.objects (innermost frame.code.classes)).constants)) cell_limit)
+    where
+      by_room : (y : Bool) → G l frame (world_of (charged y (name_cost (has_name x (class_at w.objects (innermost frame.code.classes)).constants)) w (changing (with_constant (innermost frame.code.classes) x v) (Done v))))
+      by_room true = record { turns = le.turns; names = le.names }
+      by_room false = le
+
+  -- one of several targets, and those behind it
+  set_one : (g : Goal) (l : Where) (seq : Routine) (frame : Frame) (out : List CatchRow) (p fin n0 : ℕ) (u v : Value) (us over st : List Value) (w : World) (c : Outcome) (next : Run) → frame.first ≡ l.first → GoalHeld l.sight g → G l frame w
+      → slice_get seq.body.code p ≡ Some (at_line (line_at l n0) (table.set_goal l g)) → rows_at p seq.body.rows ≡ out → us ≡ over ++ st
+      → ((z : World) → G l frame z → A seq frame c fin st out (then_do (next z) (λ y. Done v)) → R seq frame c (p + 1) us z)
+      → A seq frame c fin st out (then_do (then_do (set_goal (with_loop l frame) n0 g u w) (λ y. next)) (λ y. Done v)) → R seq frame c p (u ∷ us) w
+  set_one g l seq frame out p fin n0 u v us over st w c next e held le fetch rows same k1 k =
+      dropped seq frame c p (p + 1) fin (u ∷ us) us st (u ∷ over) w out (line_at l n0) (table.set_goal l g) (set_goal frame (line_at l n0) g u w) (λ y. then next (λ y1. Done v)) (G l frame) fetch rows
+      (goal_acts g l seq frame p (line_at l n0) u us w held le) (ap (λ y. u ∷ y) same) (goal_ready l frame (line_at l n0) g u w le) (λ y z r a. k1 z r a)
+      (subst (λ o. A seq frame c fin st out (then_do o (λ y. then next (λ y1. Done v)))) (ap (λ f. f w) (goal_same (with_loop l frame) frame n0 (line_at l n0) refl (own_lines l frame e n0) g u))
+      (subst (λ o. A seq frame c fin st out o) (then_assoc (set_goal (with_loop l frame) n0 g u w) (λ y. next) (λ y. Done v)) k))
+
+  sets_do : (gs : List Goal) (us : List Value) (l : Where) (seq : Routine) (frame : Frame) (out : List CatchRow) (h p n0 : ℕ) (v : Value) (st : List Value) (w : World) (c : Outcome) (fin : ℕ) → frame.first ≡ l.first → GoalsHeld l.sight gs → G l frame w
+      → Placed seq.body.code seq.body.rows out h p (table.sets l (line_at l n0) gs done) → finish p (table.sets l (line_at l n0) gs done) ≡ fin
+      → A seq frame c fin st out (then_do (set_goals (with_loop l frame) n0 gs us w) (λ y. Done v)) → R seq frame c p (first_values (length gs) us ++ (v ∷ st)) w
+  sets_do [] us l seq frame out h p n0 v st w c fin e held le pl f k = subst (λ q. R seq frame c q (v ∷ st) w) (sym f) k
+  sets_do (g ∷ gs) [] l seq frame out h p n0 v st w c fin e held le pl f k =
+      set_one g l seq frame out p fin n0 nil v (first_values (length gs) [] ++ (v ∷ st)) (first_values (length gs) [] ++ (v ∷ [])) st w c (set_goals (with_loop l frame) n0 gs []) e held.0 le pl.0 pl.1 (sym (append_assoc (first_values (length gs) []) (v ∷ []) st))
+      (λ z r a. sets_do gs [] l seq frame out h (p + 1) n0 v st z c fin e held.1 r pl.2 f a) k
+  sets_do (g ∷ gs) (u ∷ us) l seq frame out h p n0 v st w c fin e held le pl f k =
+      set_one g l seq frame out p fin n0 u v (first_values (length gs) us ++ (v ∷ st)) (first_values (length gs) us ++ (v ∷ [])) st w c (set_goals (with_loop l frame) n0 gs us) e held.0 le pl.0 pl.1 (sym (append_assoc (first_values (length gs) us) (v ∷ []) st))
+      (λ z r a. sets_do gs us l seq frame out h (p + 1) n0 v st z c fin e held.1 r pl.2 f a) k
+
   mutual
     pub tree_does : (t : Tree) (l : Where) (seq : Routine) (frame : Frame) (out : List CatchRow) (h p : ℕ) → StandsIn l frame → Finds seqs bodies l t → Placed seq.body.code seq.body.rows out h p (shape l t) → D l seq frame out h p (finish p (shape l t)) (run_it l frame t)
     tree_does (at s f) l seq frame out h p sd fs pl = form_does f l s seq frame out h p sd fs pl
@@ -1167,7 +1232,11 @@ module _ (files : Files) (b : Tree → Frame → Run) (seqs : ℕ → Routine) (
         (λ v z b1 k1. answered seq frame c p1 (p1 + 1) (v ∷ st) st (v ∷ []) z out (own l s) (OptGetConstantPath 2 xs) (path_from frame (own l s) xs v z) (path_from (with_loop l frame) s.line xs v z) pl.1.0 pl.1.1 refl refl
         (ap (λ f. f z) (path_same (with_loop l frame) frame s.line (own l s) refl (own_lines l frame sd.of_first s.line) xs v)) k1) k
     form_does (assign t g) l s seq frame out h p sd fs pl = form_assign_ends t g l s seq frame out h p sd (λ o1 h1 p1 pl1. tree_does t l seq frame o1 h1 p1 sd fs.0 pl1) fs pl
-    form_does (assign_all ts gs) l s seq frame out h p sd fs pl = λ c st w high le k. ?
+    form_does (assign_all ts gs) l s seq frame out h p sd fs pl = λ c st w high le k.
+        values_does ts l seq frame out h p (own l s) _ sd (trees_all ts l seq frame sd fs.0) pl c st w (finish p (form_shape l (assign_all ts gs) s)) (λ v. reading (λ z. parts_of z.objects v) (λ us. then (set_goals (with_loop l frame) s.line gs us) (λ u. Done v))) refl high le
+        (λ v q z pl1 e1 b1 k1. on seq frame c q (v ∷ st) z (own l s) Dup (q + 1) (v ∷ (v ∷ st)) z pl1.0 refl
+        (on seq frame c (q + 1) (v ∷ (v ∷ st)) z (own l s) (ExpandArray (length gs)) (q + 1 + 1) (first_values (length gs) (parts_of z.objects v) ++ (v ∷ st)) z pl1.2.0 refl
+        (sets_do gs (parts_of z.objects v) l seq frame out h (q + 1 + 1) s.line v st z c (finish p (form_shape l (assign_all ts gs) s)) sd.of_first fs.1 b1 pl1.2.2 e1 k1))) k
     form_does (assign_attribute a t m) l s seq frame out h p sd fs pl = form_assign_attribute_ends a t m l s seq frame out h p sd (λ o1 h1 p1 pl1. tree_does a l seq frame o1 h1 p1 sd fs.0 pl1) (λ o1 h1 p1 pl1. tree_does t l seq frame o1 h1 p1 sd fs.1 pl1) fs pl
     form_does (assign_index a i t) l s seq frame out h p sd fs pl = form_assign_index_ends a i t l s seq frame out h p sd (λ o1 h1 p1 pl1. tree_does a l seq frame o1 h1 p1 sd fs.0 pl1) (λ o1 h1 p1 pl1. tree_does i l seq frame o1 h1 p1 sd fs.1 pl1) (λ o1 h1 p1 pl1. tree_does t l seq frame o1 h1 p1 sd fs.2 pl1) fs pl
     form_does (operate_attribute a x t f m n) l s seq frame out h p sd fs pl = form_operate_attribute_ends a x t f m n l s seq frame out h p sd (λ o1 h1 p1 pl1. tree_does a l seq frame o1 h1 p1 sd fs.0 pl1) (λ o1 h1 p1 pl1. tree_does t l seq frame o1 h1 p1 sd fs.1 pl1) fs pl
@@ -1272,8 +1341,8 @@ module _ (files : Files) (b : Tree → Frame → Run) (seqs : ℕ → Routine) (
     form_does (case_of a ws o) l s seq frame out h p sd fs pl = λ c st w high le k. ?
     form_does (case_tests ws o) l s seq frame out h p sd fs pl = λ c st w high le k. ?
     form_does (method x t f) l s seq frame out h p sd fs pl = λ c st w high le k.
-        dropped seq frame c p (p + 1) (p + 1 + 1) st st st [] w out (own l s) (DefineMethod x (suc (number_of l t)) (table.on_self f)) (define_method frame (own l s) x t f w) (λ u. Done (symbol_named x)) pl.0 pl.1
-        (method_acts f seq frame p (own l s) st w x (number_of l t) t fs) refl (λ u z k1. on seq frame c (p + 1) st z (own l s) (PutObject (Sym x)) (p + 1 + 1) (symbol_named x ∷ st) z pl.2.0 refl k1)
+        dropped seq frame c p (p + 1) (p + 1 + 1) st st st [] w out (own l s) (DefineMethod x (suc (number_of l t)) (table.on_self f)) (define_method frame (own l s) x t f w) (λ u. Done (symbol_named x)) (λ y. ⊤) pl.0 pl.1
+        (method_acts f seq frame p (own l s) st w x (number_of l t) t fs) refl tt (λ u z y k1. on seq frame c (p + 1) st z (own l s) (PutObject (Sym x)) (p + 1 + 1) (symbol_named x ∷ st) z pl.2.0 refl k1)
         (subst (λ o. A seq frame c (p + 1 + 1) st out o) (ap (λ g. g w) (method_defined_same (with_loop l frame) frame s.line (own l s) refl (own_lines l frame sd.of_first s.line) x t f) ∙ defined_value frame (own l s) x t f w) k)
     form_does (class without x t) l s seq frame out h p sd fs pl = λ c st w high le k.
         on seq frame c p st w (own l s) PutNil (p + 1) (nil ∷ st) w pl.0 refl

@@ -5,4 +5,3 @@ pub mod Ready
 pub mod Control
 pub mod Leave
 pub mod Clauses
-pub mod Does
