@@ -27,7 +27,7 @@ use Rattle.ruby_meaning.specs.Definitions.{read_local, set_local_in, set_local, 
 use Rattle.ruby_meaning.specs.ClassBodies.{class_alone, module_alone, same_class, class_frame, open_class, make_class, refused, open_found, class_or_new, module_or_new, if_same_superclass, below_base, with_base, class_below, class_named, module_of_name}
 use Rattle.ruby_meaning.specs.Levels.{Scopes, Held, GoalHeld, GoalsHeld, NameHeld, is_held, level_of, slot_of}
 use Rattle.ruby_meaning.specs.Parts.{parts_of, piece_found, piece_of, make_joined, make_array, make_hash, make_range, of_values, leave_home, leave_block, leave_loop, given_value, match_found, match_class, handling, in_sequence}
-use Rattle.ruby_meaning.specs.Evaluation.{unless_nil, run_pairs, run_pieces, set_by_send, loop, set_exception, with_block, send_with, super_with, super_to, run, run_form, run_all, run_trees, run_other, run_last, run_receiver, run_given_value, run_clauses, run_clause, run_classes, run_defaults}
+use Rattle.ruby_meaning.specs.Evaluation.{run_any, run_tests, unless_nil, run_pairs, run_pieces, set_by_send, loop, set_exception, with_block, send_with, super_with, super_to, run, run_form, run_all, run_trees, run_other, run_last, run_receiver, run_given_value, run_clauses, run_clause, run_classes, run_defaults}
 use Rattle.code_meaning.specs.Code.{at_line, row_over, Routine, rows_at, Shape, done, op, ahead, part, size, Placed, finish}
 use Rattle.code_meaning.specs.Slots.{read_slot, set_slot, HaveNames}
 use Rattle.code_meaning.specs.Machine.{first_values, is_nil, pairs_of, Step, goes, pends, answer, drops, branch, with_value, with_args, with_top, block_answer, call_answer, is_valued, is_bare, literal_given, value_given, block_given, sent, super_to_method, super_sent, act, step, rescue_frame, ensure_frame, entered_in, entered_at, Runs, Follows}
@@ -36,7 +36,7 @@ use Rattle.code_meaning.proofs.Placing.{placed}
 use Rattle.compile_table.specs.Shapes as table
 use Rattle.compile_table.specs.Shapes.{Where, looped, line_or, line_at, own, start, count, is_self_form, self_flag, receiver_flag, value_flag, bare_flag, plain_send, number_of, with_literal, path_start, throw_by, named, in_rescue, in_ensure, get_local, shape, form_shape, count_pairs, pairs_shape, params_shape, all_shape, rest_shape, args_shape, path_shape, receiver_shape, value_shape, other_shape, last_shape, values_shape, clauses_shape, clause_shape, classes_shape, bodies_shape}
 use Rattle.compile_laws.specs.Likeness.{core, with_flag}
-use Rattle.compile_laws.specs.Finds.{part_routine, body_routine, FindsBlock, Finds, FindsForm, AllHeld, FindsPairs, FindsPieces, FindsTrees, FindsOther, FindsRescue, FindsRescueForm, FindsEnsure, FindsEnsureForm, FindsClauses, FindsParams, Stands, StandsIn, entry}
+use Rattle.compile_laws.specs.Finds.{part_routine, body_routine, FindsBlock, Finds, FindsForm, AllHeld, FindsPairs, FindsPieces, FindsWhens, FindsTrees, FindsOther, FindsRescue, FindsRescueForm, FindsEnsure, FindsEnsureForm, FindsClauses, FindsParams, Stands, StandsIn, entry}
 use Rattle.compile_laws.proofs.AlikeCalls.{raising_same, no_method_same, range_same, path_same, around_same, goal_same, method_defined_same, open_same, class_named_same, class_below_same, module_same, home_same, leave_same, given_same, given_block_same, call_same, super_same}
 use Rattle.compile_laws.proofs.After.{deeper_pending, leap_ahead, Pending, After, here, go, pend, answers, after_then}
 use Rattle.compile_laws.proofs.Ready.{Ready, KeepsReady}
@@ -1185,6 +1185,68 @@ module _ (files : Files) (b : Tree → Frame → Run) (seqs : ℕ → Routine) (
       set_one g l seq frame out p fin n0 u v (first_values (length gs) us ++ (v ∷ st)) (first_values (length gs) us ++ (v ∷ [])) st w c (set_goals (with_loop l frame) n0 gs us) e held.0 le pl.0 pl.1 (sym (append_assoc (first_values (length gs) us) (v ∷ []) st))
       (λ z r a. sets_do gs us l seq frame out h (p + 1) n0 v st z c fin e held.1 r pl.2 f a) k
 
+  -- behind a test
+  chosen_ends : (x : Bool) (seq : Routine) (frame : Frame) (c : Outcome) (p n line hit_place : ℕ) (v : Value) (st : List Value) (z : World) (out : List CatchRow) (fin : ℕ) (hit rest : Run) → slice_get seq.body.code p ≡ Some (at_line line (BranchIf (p + 1 + n))) → p + 1 + n ≡ hit_place → is_true v ≡ x
+      → (A seq frame c fin st out (hit z) → R seq frame c hit_place st z) → (A seq frame c fin st out (rest z) → R seq frame c (p + 1) st z) → A seq frame c fin st out (choose x hit rest z) → R seq frame c p (v ∷ st) z
+  chosen_ends true seq frame c p n line hit_place v st z out fin hit rest turn over same to_hit to_rest k =
+      on seq frame c p (v ∷ st) z line (BranchIf (p + 1 + n)) hit_place st z turn (branch_over (is_true v) p n hit_place st z same over) (to_hit k)
+  chosen_ends false seq frame c p n line hit_place v st z out fin hit rest turn over same to_hit to_rest k =
+      on seq frame c p (v ∷ st) z line (BranchIf (p + 1 + n)) (p + 1) st z turn (branch_on (is_true v) p (p + 1 + n) st z same) (to_rest k)
+
+  abbrev TW : Where → Routine → Frame → Whens → Type 0
+  TW l seq frame no_when = ⊤
+  TW l seq frame (when ts t ws) = TS l seq frame ts × T l seq frame t × TW l seq frame ws
+
+  test_size : (ts : Trees) (l : Where) (line far : ℕ) (s : Shape) → size (table.test_shape l line ts far s) ≡ size (table.test_shape l line ts 0 done) + size s
+  test_size no_more l line far s = omega arith
+  test_size (more t ts) l line far s = let e = test_size ts l line far s in let f = test_size ts l line 0 done in omega arith
+
+  tests_size : (ws : Whens) (l : Where) (line far : ℕ) (s : Shape) → size (table.tests_shape l line ws far s) ≡ size (table.tests_shape l line ws 0 done) + size s
+  tests_size no_when l line far s = omega arith
+  tests_size (when ts t ws) l line far s =
+      let n = size (table.tests_shape l line ws 0 done) in let k = size (shape l t) + 1 in
+      let e = test_size ts l line (n + far) (table.tests_shape l line ws (far + k) s) in let f = test_size ts l line (n + 0) (table.tests_shape l line ws (0 + k) done) in
+      let g = tests_size ws l line (far + k) s in let g0 = tests_size ws l line (0 + k) done in omega arith
+
+  test_tail : (ts : Trees) (l : Where) (seq : Routine) (frame : Frame) (out : List CatchRow) (h p line far : ℕ) (s : Shape) → Placed seq.body.code seq.body.rows out h p (table.test_shape l line ts far s) → Placed seq.body.code seq.body.rows out h (p + size (table.test_shape l line ts 0 done)) s
+  test_tail no_more l seq frame out h p line far s pl = subst (λ q. Placed seq.body.code seq.body.rows out h q s) (let e : p ≡ p + 0 = omega arith in e) pl
+  test_tail (more t ts) l seq frame out h p line far s pl =
+      let p1 = finish p (shape l t) in let g = finish_size (shape l t) p in
+      subst (λ q. Placed seq.body.code seq.body.rows out h q s) (let e : p1 + 1 + size (table.test_shape l line ts 0 done) ≡ p + size (table.test_shape l line (more t ts) 0 done) = omega arith in e) (test_tail ts l seq frame out h (p1 + 1) line far s pl.1.2)
+
+  tests_tail : (ws : Whens) (l : Where) (seq : Routine) (frame : Frame) (out : List CatchRow) (h p line far : ℕ) (s : Shape) → Placed seq.body.code seq.body.rows out h p (table.tests_shape l line ws far s) → Placed seq.body.code seq.body.rows out h (p + size (table.tests_shape l line ws 0 done)) s
+  tests_tail no_when l seq frame out h p line far s pl = subst (λ q. Placed seq.body.code seq.body.rows out h q s) (let e : p ≡ p + 0 = omega arith in e) pl
+  tests_tail (when ts t ws) l seq frame out h p line far s pl =
+      let n = size (table.tests_shape l line ws 0 done) in let k = size (shape l t) + 1 in
+      let f = test_size ts l line (n + 0) (table.tests_shape l line ws (0 + k) done) in let g0 = tests_size ws l line (0 + k) done in
+      subst (λ q. Placed seq.body.code seq.body.rows out h q s) (let e : p + size (table.test_shape l line ts 0 done) + n ≡ p + size (table.tests_shape l line (when ts t ws) 0 done) = omega arith in e)
+      (tests_tail ws l seq frame out h (p + size (table.test_shape l line ts 0 done)) line (far + k) s (test_tail ts l seq frame out h p line (n + far) (table.tests_shape l line ws (far + k) s) pl))
+
+  -- the tests of one branch of a case without a value
+  any_does : (ts : Trees) (l : Where) (seq : Routine) (frame : Frame) (out : List CatchRow) (h p line far : ℕ) (s : Shape) → StandsIn l frame → TS l seq frame ts → Placed seq.body.code seq.body.rows out h p (table.test_shape l line ts far s)
+      → (c : Outcome) (st : List Value) (w : World) (hit rest : Run) (hit_place fin : ℕ) → p + size (table.test_shape l line ts 0 done) + far ≡ hit_place → High l.clause frame.handled h st → G l frame w
+      → ((z : World) → G l frame z → A seq frame c fin st out (hit z) → R seq frame c hit_place st z)
+      → ((q : ℕ) (z : World) → Placed seq.body.code seq.body.rows out h q s → q + far ≡ hit_place → G l frame z → A seq frame c fin st out (rest z) → R seq frame c q st z)
+      → A seq frame c fin st out (run_any files top b ts (with_loop l frame) hit rest w) → R seq frame c p st w
+  any_does no_more l seq frame out h p line far s sd fs pl c st w hit rest hit_place fin over high le to_hit to_rest k = to_rest p w pl (omega arith) le k
+  any_does (more t ts) l seq frame out h p line far s sd fs pl c st w hit rest hit_place fin over high le to_hit to_rest k =
+      let p1 = finish p (shape l t) in let g = finish_size (shape l t) p in let n = size (table.test_shape l line ts 0 done) + far in
+      tree_then seq frame out (h + 0) p p1 fin l t (fs.0 out (h + 0) p pl.0) c st [] st w (λ r. choose (is_true r) hit (run_any files top b ts (with_loop l frame) hit rest)) high (omega (arith, high.tall)) refl le
+      (λ v z b1 k1. chosen_ends (is_true v) seq frame c p1 n line hit_place v st z out fin hit (run_any files top b ts (with_loop l frame) hit rest) pl.1.0 (omega arith) refl (to_hit z b1)
+      (λ k2. any_does ts l seq frame out h (p1 + 1) line far s sd fs.1 pl.1.2 c st z hit rest hit_place fin (omega arith) high b1 to_hit to_rest k2) k1) k
+
+  tests_does : (ws : Whens) (l : Where) (seq : Routine) (frame : Frame) (out : List CatchRow) (h p line far : ℕ) (s : Shape) → StandsIn l frame → TW l seq frame ws → Placed seq.body.code seq.body.rows out h p (table.tests_shape l line ws far s)
+      → (c : Outcome) (st : List Value) (w : World) (last : Run) (hits fin : ℕ) → Placed seq.body.code seq.body.rows out h hits (table.hits_shape l line ws) → p + size (table.tests_shape l line ws 0 done) + far ≡ hits → finish hits (table.hits_shape l line ws) ≡ fin → High l.clause frame.handled h st → G l frame w
+      → ((q : ℕ) (z : World) → Placed seq.body.code seq.body.rows out h q s → q + far ≡ hits → G l frame z → A seq frame c fin st out (last z) → R seq frame c q st z)
+      → A seq frame c fin st out (run_tests files top b ws (with_loop l frame) last w) → R seq frame c p st w
+  tests_does no_when l seq frame out h p line far s sd fs pl c st w last hits fin hp over e high le to_last k = to_last p w pl (omega arith) le k
+  tests_does (when ts t ws) l seq frame out h p line far s sd fs pl c st w last hits fin hp over e high le to_last k =
+      let n = size (table.tests_shape l line ws 0 done) in let m = size (shape l t) + 1 in let ph = finish hits (shape l t) in let g = finish_size (shape l t) hits in
+      let f = test_size ts l line (n + 0) (table.tests_shape l line ws (0 + m) done) in let g0 = tests_size ws l line (0 + m) done in let gh = finish_size (table.hits_shape l line ws) (ph + 1) in
+      any_does ts l seq frame out h p line (n + far) (table.tests_shape l line ws (far + m) s) sd fs.0 pl c st w (run_it l frame t) (run_tests files top b ws (with_loop l frame) last) hits fin (omega arith) high le
+      (λ z b1 k1. fs.1 out (h + 0) hits hp.0 c st z (plus_zero _ _ _ _ high) b1 (after_move seq frame c ph fin st out (run_it l frame t z) (λ u y r. jump_to seq frame c ph (size (table.hits_shape l line ws)) line fin (u ∷ st) y hp.1.0 (omega arith) r) k1))
+      (λ q z pl1 over1 b1 k1. tests_does ws l seq frame out h q line (far + m) s sd fs.2 pl1 c st z last (ph + 1) fin hp.1.2 (omega arith) e high b1 (λ q1 z1 pl2 e2 b2 k2. to_last q1 z1 pl2 (omega arith) b2 k2) k1) k
+
   mutual
     pub tree_does : (t : Tree) (l : Where) (seq : Routine) (frame : Frame) (out : List CatchRow) (h p : ℕ) → StandsIn l frame → Finds seqs bodies l t → Placed seq.body.code seq.body.rows out h p (shape l t) → D l seq frame out h p (finish p (shape l t)) (run_it l frame t)
     tree_does (at s f) l seq frame out h p sd fs pl = form_does f l s seq frame out h p sd fs pl
@@ -1339,7 +1401,15 @@ module _ (files : Files) (b : Tree → Frame → Run) (seqs : ℕ → Routine) (
         (subst (λ y. Runs files b seqs bodies (part_routine (in_ensure l e) kinds.Ensure e) (ensure_frame (part_routine (in_ensure l e) kinds.Ensure e) frame) 0 [] y (emptied (run_it l frame e z))) (sym (entered_same l frame e z sd.of_places))
         (ensure_part e l frame z sd fs.2 b1))) c st high w le k
     form_does (case_of a ws o) l s seq frame out h p sd fs pl = λ c st w high le k. ?
-    form_does (case_tests ws o) l s seq frame out h p sd fs pl = λ c st w high le k. ?
+    form_does (case_tests ws o) l s seq frame out h p sd fs pl = λ c st w high le k.
+        let line = own l s in let n = size (other_shape l o) + 1 in let rest = part 0 (other_shape l o) (ahead line Jump (size (table.hits_shape l line ws)) (table.hits_shape l line ws)) in
+        let q0 = p + size (table.tests_shape l line ws 0 done) in let hits = finish q0 (other_shape l o) + 1 in let fin = finish hits (table.hits_shape l line ws) in
+        let g = finish_size (other_shape l o) q0 in let g1 = finish_size (form_shape l (case_tests ws o) s) p in let g2 = tests_size ws l line n rest in let g3 = finish_size (table.hits_shape l line ws) hits in
+        let tail = tests_tail ws l seq frame out h p line n rest pl in
+        let e : finish p (form_shape l (case_tests ws o) s) ≡ fin = omega arith in
+        tests_does ws l seq frame out h p line n rest sd (whens_all ws l seq frame sd fs.0) pl c st w (run_other files top b o (with_loop l frame)) hits fin tail.1.2 (omega arith) refl high le
+        (λ q z pl1 e1 b1 k1. let gq = finish_size (other_shape l o) q in let gf = finish_size (table.hits_shape l line ws) (finish q (other_shape l o) + 1) in
+        other_does o l seq frame out h q sd (other_all o l seq frame sd fs.1) pl1.0 c st z high b1 (after_move seq frame c (finish q (other_shape l o)) fin st out (run_other files top b o (with_loop l frame) z) (λ u y r. jump_to seq frame c (finish q (other_shape l o)) (size (table.hits_shape l line ws)) line fin (u ∷ st) y pl1.1.0 (omega arith) r) k1)) (subst (λ y. A seq frame c y st out (run_tests files top b ws (with_loop l frame) (run_other files top b o (with_loop l frame)) w)) e k)
     form_does (method x t f) l s seq frame out h p sd fs pl = λ c st w high le k.
         dropped seq frame c p (p + 1) (p + 1 + 1) st st st [] w out (own l s) (DefineMethod x (suc (number_of l t)) (table.on_self f)) (define_method frame (own l s) x t f w) (λ u. Done (symbol_named x)) (λ y. ⊤) pl.0 pl.1
         (method_acts f seq frame p (own l s) st w x (number_of l t) t fs) refl tt (λ u z y k1. on seq frame c (p + 1) st z (own l s) (PutObject (Sym x)) (p + 1 + 1) (symbol_named x ∷ st) z pl.2.0 refl k1)
@@ -1416,3 +1486,7 @@ module _ (files : Files) (b : Tree → Frame → Run) (seqs : ℕ → Routine) (
     pieces_all no_piece l seq frame sd fs = tt
     pieces_all (plain_piece x ps) l seq frame sd fs = pieces_all ps l seq frame sd fs
     pieces_all (code_piece t ps) l seq frame sd fs = (λ out h p pl. tree_does t l seq frame out h p sd fs.0 pl, pieces_all ps l seq frame sd fs.1)
+
+    whens_all : (ws : Whens) (l : Where) (seq : Routine) (frame : Frame) → StandsIn l frame → FindsWhens seqs bodies l ws → TW l seq frame ws
+    whens_all no_when l seq frame sd fs = tt
+    whens_all (when ts t ws) l seq frame sd fs = (trees_all ts l seq frame sd fs.0, λ out h p pl. tree_does t l seq frame out h p sd fs.1 pl, whens_all ws l seq frame sd fs.2)
