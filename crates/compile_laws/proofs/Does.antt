@@ -27,7 +27,7 @@ use Rattle.ruby_meaning.specs.Definitions.{read_local, set_local_in, set_local, 
 use Rattle.ruby_meaning.specs.ClassBodies.{class_alone, module_alone, same_class, class_frame, open_class, make_class, refused, open_found, class_or_new, module_or_new, if_same_superclass, below_base, with_base, class_below, class_named, module_of_name}
 use Rattle.ruby_meaning.specs.Levels.{Scopes, Held, GoalHeld, GoalsHeld, NameHeld, is_held, level_of, slot_of}
 use Rattle.ruby_meaning.specs.Parts.{parts_of, piece_found, piece_of, make_joined, make_array, make_hash, make_range, of_values, leave_home, leave_block, leave_loop, given_value, match_found, match_class, handling, in_sequence}
-use Rattle.ruby_meaning.specs.Evaluation.{run_any, run_tests, unless_nil, run_pairs, run_pieces, set_by_send, loop, set_exception, with_block, send_with, super_with, super_to, run, run_form, run_all, run_trees, run_other, run_last, run_receiver, run_given_value, run_clauses, run_clause, run_classes, run_defaults}
+use Rattle.ruby_meaning.specs.Evaluation.{run_patterns, run_whens, run_any, run_tests, unless_nil, run_pairs, run_pieces, set_by_send, loop, set_exception, with_block, send_with, super_with, super_to, run, run_form, run_all, run_trees, run_other, run_last, run_receiver, run_given_value, run_clauses, run_clause, run_classes, run_defaults}
 use Rattle.code_meaning.specs.Code.{at_line, row_over, Routine, rows_at, Shape, done, op, ahead, part, size, Placed, finish}
 use Rattle.code_meaning.specs.Slots.{read_slot, set_slot, HaveNames}
 use Rattle.code_meaning.specs.Machine.{first_values, is_nil, pairs_of, Step, goes, pends, answer, drops, branch, with_value, with_args, with_top, block_answer, call_answer, is_valued, is_bare, literal_given, value_given, block_given, sent, super_to_method, super_sent, act, step, rescue_frame, ensure_frame, entered_in, entered_at, Runs, Follows}
@@ -1247,6 +1247,66 @@ module _ (files : Files) (b : Tree → Frame → Run) (seqs : ℕ → Routine) (
       (λ z b1 k1. fs.1 out (h + 0) hits hp.0 c st z (plus_zero _ _ _ _ high) b1 (after_move seq frame c ph fin st out (run_it l frame t z) (λ u y r. jump_to seq frame c ph (size (table.hits_shape l line ws)) line fin (u ∷ st) y hp.1.0 (omega arith) r) k1))
       (λ q z pl1 over1 b1 k1. tests_does ws l seq frame out h q line (far + m) s sd fs.2 pl1 c st z last (ph + 1) fin hp.1.2 (omega arith) e high b1 (λ q1 z1 pl2 e2 b2 k2. to_last q1 z1 pl2 (omega arith) b2 k2) k1) k
 
+  -- behind a pattern, over what lies on the stack
+  chosen_ends_over : (x : Bool) (seq : Routine) (frame : Frame) (c : Outcome) (p n line hit_place : ℕ) (v : Value) (stk st : List Value) (z : World) (out : List CatchRow) (fin : ℕ) (hit rest : Run) → slice_get seq.body.code p ≡ Some (at_line line (BranchIf (p + 1 + n))) → p + 1 + n ≡ hit_place → is_true v ≡ x
+      → (A seq frame c fin st out (hit z) → R seq frame c hit_place stk z) → (A seq frame c fin st out (rest z) → R seq frame c (p + 1) stk z) → A seq frame c fin st out (choose x hit rest z) → R seq frame c p (v ∷ stk) z
+  chosen_ends_over true seq frame c p n line hit_place v stk st z out fin hit rest turn over same to_hit to_rest k =
+      on seq frame c p (v ∷ stk) z line (BranchIf (p + 1 + n)) hit_place stk z turn (branch_over (is_true v) p n hit_place stk z same over) (to_hit k)
+  chosen_ends_over false seq frame c p n line hit_place v stk st z out fin hit rest turn over same to_hit to_rest k =
+      on seq frame c p (v ∷ stk) z line (BranchIf (p + 1 + n)) (p + 1) stk z turn (branch_on (is_true v) p (p + 1 + n) stk z same) (to_rest k)
+
+  pattern_size : (ts : Trees) (l : Where) (line far : ℕ) (s : Shape) → size (table.pattern_shape l line ts far s) ≡ size (table.pattern_shape l line ts 0 done) + size s
+  pattern_size no_more l line far s = omega arith
+  pattern_size (more t ts) l line far s = let e = pattern_size ts l line far s in let f = pattern_size ts l line 0 done in omega arith
+
+  patterns_size : (ws : Whens) (l : Where) (line far : ℕ) (s : Shape) → size (table.patterns_shape l line ws far s) ≡ size (table.patterns_shape l line ws 0 done) + size s
+  patterns_size no_when l line far s = omega arith
+  patterns_size (when ts t ws) l line far s =
+      let n = size (table.patterns_shape l line ws 0 done) in let k = size (shape l t) + 2 in
+      let e = pattern_size ts l line (n + far) (table.patterns_shape l line ws (far + k) s) in let f = pattern_size ts l line (n + 0) (table.patterns_shape l line ws (0 + k) done) in
+      let g = patterns_size ws l line (far + k) s in let g0 = patterns_size ws l line (0 + k) done in omega arith
+
+  pattern_tail : (ts : Trees) (l : Where) (seq : Routine) (frame : Frame) (out : List CatchRow) (h p line far : ℕ) (s : Shape) → Placed seq.body.code seq.body.rows out h p (table.pattern_shape l line ts far s) → Placed seq.body.code seq.body.rows out h (p + size (table.pattern_shape l line ts 0 done)) s
+  pattern_tail no_more l seq frame out h p line far s pl = subst (λ q. Placed seq.body.code seq.body.rows out h q s) (let e : p ≡ p + 0 = omega arith in e) pl
+  pattern_tail (more t ts) l seq frame out h p line far s pl =
+      let p1 = finish p (shape l t) in let g = finish_size (shape l t) p in
+      subst (λ q. Placed seq.body.code seq.body.rows out h q s) (let e : p1 + 1 + 1 + 1 + size (table.pattern_shape l line ts 0 done) ≡ p + size (table.pattern_shape l line (more t ts) 0 done) = omega arith in e) (pattern_tail ts l seq frame out h (p1 + 1 + 1 + 1) line far s pl.1.2.2.2)
+
+  patterns_tail : (ws : Whens) (l : Where) (seq : Routine) (frame : Frame) (out : List CatchRow) (h p line far : ℕ) (s : Shape) → Placed seq.body.code seq.body.rows out h p (table.patterns_shape l line ws far s) → Placed seq.body.code seq.body.rows out h (p + size (table.patterns_shape l line ws 0 done)) s
+  patterns_tail no_when l seq frame out h p line far s pl = subst (λ q. Placed seq.body.code seq.body.rows out h q s) (let e : p ≡ p + 0 = omega arith in e) pl
+  patterns_tail (when ts t ws) l seq frame out h p line far s pl =
+      let n = size (table.patterns_shape l line ws 0 done) in let k = size (shape l t) + 2 in
+      let f = pattern_size ts l line (n + 0) (table.patterns_shape l line ws (0 + k) done) in let g0 = patterns_size ws l line (0 + k) done in
+      subst (λ q. Placed seq.body.code seq.body.rows out h q s) (let e : p + size (table.pattern_shape l line ts 0 done) + n ≡ p + size (table.patterns_shape l line (when ts t ws) 0 done) = omega arith in e)
+      (patterns_tail ws l seq frame out h (p + size (table.pattern_shape l line ts 0 done)) line (far + k) s (pattern_tail ts l seq frame out h p line (n + far) (table.patterns_shape l line ws (far + k) s) pl))
+
+  -- the tests of one branch of a case without a value
+  pattern_does : (ts : Trees) (l : Where) (seq : Routine) (frame : Frame) (out : List CatchRow) (h p line far : ℕ) (s : Shape) → StandsIn l frame → TS l seq frame ts → Placed seq.body.code seq.body.rows out h p (table.pattern_shape l line ts far s)
+      → (c : Outcome) (st : List Value) (v : Value) (w : World) (hit rest : Run) (hit_place fin : ℕ) → p + size (table.pattern_shape l line ts 0 done) + far ≡ hit_place → High l.clause frame.handled h st → G l frame w
+      → ((z : World) → G l frame z → A seq frame c fin st out (hit z) → R seq frame c hit_place (v ∷ st) z)
+      → ((q : ℕ) (z : World) → Placed seq.body.code seq.body.rows out h q s → q + far ≡ hit_place → G l frame z → A seq frame c fin st out (rest z) → R seq frame c q (v ∷ st) z)
+      → A seq frame c fin st out (run_patterns files top b ts (with_loop l frame) v hit rest w) → R seq frame c p (v ∷ st) w
+  pattern_does no_more l seq frame out h p line far s sd fs pl c st v w hit rest hit_place fin over high le to_hit to_rest k = to_rest p w pl (omega arith) le k
+  pattern_does (more t ts) l seq frame out h p line far s sd fs pl c st v w hit rest hit_place fin over high le to_hit to_rest k =
+      let p1 = finish p (shape l t) in let g = finish_size (shape l t) p in let n = size (table.pattern_shape l line ts 0 done) + far in
+      tree_then seq frame out (h + 1) p p1 fin l t (fs.0 out (h + 1) p pl.0) c (v ∷ st) (v ∷ []) st w (λ y. then (call_method files b (with_loop l frame) 0 y (codes "===") (v ∷ []) no_block false) (λ r. choose (is_true r) hit (run_patterns files top b ts (with_loop l frame) v hit rest))) high (omega (arith, high.tall)) refl le
+      (λ y z b1 k1. on seq frame c p1 (y ∷ (v ∷ st)) z line (TopN 1) (p1 + 1) (v ∷ (y ∷ (v ∷ st))) z pl.1.0 refl
+      (send_then l seq frame out (p1 + 1) fin 0 (codes "===") 1 (self_flag t) (v ∷ []) y (v ∷ st) (v ∷ []) st z c (λ r. choose (is_true r) hit (run_patterns files top b ts (with_loop l frame) v hit rest)) sd.of_first (self_bit t) refl pl.1.2.0 pl.1.2.1 refl b1
+      (λ r z1 b2 k2. chosen_ends_over (is_true r) seq frame c (p1 + 1 + 1) n line hit_place r (v ∷ st) st z1 out fin hit (run_patterns files top b ts (with_loop l frame) v hit rest) pl.1.2.2.0 (omega arith) refl (to_hit z1 b2)
+      (λ k3. pattern_does ts l seq frame out h (p1 + 1 + 1 + 1) line far s sd fs.1 pl.1.2.2.2 c st v z1 hit rest hit_place fin (omega arith) high b2 to_hit to_rest k3) k2) k1)) k
+
+  patterns_does : (ws : Whens) (l : Where) (seq : Routine) (frame : Frame) (out : List CatchRow) (h p line far : ℕ) (s : Shape) → StandsIn l frame → TW l seq frame ws → Placed seq.body.code seq.body.rows out h p (table.patterns_shape l line ws far s)
+      → (c : Outcome) (st : List Value) (v : Value) (w : World) (last : Run) (hits fin : ℕ) → Placed seq.body.code seq.body.rows out h hits (table.cases_shape l line ws) → p + size (table.patterns_shape l line ws 0 done) + far ≡ hits → finish hits (table.cases_shape l line ws) ≡ fin → High l.clause frame.handled h st → G l frame w
+      → ((q : ℕ) (z : World) → Placed seq.body.code seq.body.rows out h q s → q + far ≡ hits → G l frame z → A seq frame c fin st out (last z) → R seq frame c q (v ∷ st) z)
+      → A seq frame c fin st out (run_whens files top b ws (with_loop l frame) v last w) → R seq frame c p (v ∷ st) w
+  patterns_does no_when l seq frame out h p line far s sd fs pl c st v w last hits fin hp over e high le to_last k = to_last p w pl (omega arith) le k
+  patterns_does (when ts t ws) l seq frame out h p line far s sd fs pl c st v w last hits fin hp over e high le to_last k =
+      let n = size (table.patterns_shape l line ws 0 done) in let m = size (shape l t) + 2 in let ph = finish (hits + 1) (shape l t) in let g = finish_size (shape l t) (hits + 1) in
+      let f = pattern_size ts l line (n + 0) (table.patterns_shape l line ws (0 + m) done) in let g0 = patterns_size ws l line (0 + m) done in let gh = finish_size (table.cases_shape l line ws) (ph + 1) in
+      pattern_does ts l seq frame out h p line (n + far) (table.patterns_shape l line ws (far + m) s) sd fs.0 pl c st v w (run_it l frame t) (run_whens files top b ws (with_loop l frame) v last) hits fin (omega arith) high le
+      (λ z b1 k1. on seq frame c hits (v ∷ st) z line Pop (hits + 1) st z hp.0 refl (fs.1 out (h + 0) (hits + 1) hp.2.0 c st z (plus_zero _ _ _ _ high) b1 (after_move seq frame c ph fin st out (run_it l frame t z) (λ u y r. jump_to seq frame c ph (size (table.cases_shape l line ws)) line fin (u ∷ st) y hp.2.1.0 (omega arith) r) k1)))
+      (λ q z pl1 over1 b1 k1. patterns_does ws l seq frame out h q line (far + m) s sd fs.2 pl1 c st v z last (ph + 1) fin hp.2.1.2 (omega arith) e high b1 (λ q1 z1 pl2 e2 b2 k2. to_last q1 z1 pl2 (omega arith) b2 k2) k1) k
+
   mutual
     pub tree_does : (t : Tree) (l : Where) (seq : Routine) (frame : Frame) (out : List CatchRow) (h p : ℕ) → StandsIn l frame → Finds seqs bodies l t → Placed seq.body.code seq.body.rows out h p (shape l t) → D l seq frame out h p (finish p (shape l t)) (run_it l frame t)
     tree_does (at s f) l seq frame out h p sd fs pl = form_does f l s seq frame out h p sd fs pl
@@ -1400,7 +1460,18 @@ module _ (files : Files) (b : Tree → Frame → Run) (seqs : ℕ → Routine) (
         (λ z b1. subst (λ y. Runs files b seqs bodies y (ensure_frame y frame) 0 [] (entered_at (number_of l e) frame z) (emptied (run_it l frame e z))) (sym fs.1)
         (subst (λ y. Runs files b seqs bodies (part_routine (in_ensure l e) kinds.Ensure e) (ensure_frame (part_routine (in_ensure l e) kinds.Ensure e) frame) 0 [] y (emptied (run_it l frame e z))) (sym (entered_same l frame e z sd.of_places))
         (ensure_part e l frame z sd fs.2 b1))) c st high w le k
-    form_does (case_of a ws o) l s seq frame out h p sd fs pl = λ c st w high le k. ?
+    form_does (case_of a ws o) l s seq frame out h p sd fs pl = λ c st w high le k.
+        let line = own l s in let n = size (other_shape l o) + 2 in let rest = op line Pop (part 0 (other_shape l o) (ahead line Jump (size (table.cases_shape l line ws)) (table.cases_shape l line ws))) in
+        let pa = finish p (shape l a) in let q0 = pa + size (table.patterns_shape l line ws 0 done) in let hits = finish (q0 + 1) (other_shape l o) + 1 in let fin = finish hits (table.cases_shape l line ws) in
+        let g = finish_size (other_shape l o) (q0 + 1) in let g0 = finish_size (shape l a) p in let g1 = finish_size (form_shape l (case_of a ws o) s) p in let g2 = patterns_size ws l line n rest in let g3 = finish_size (table.cases_shape l line ws) hits in
+        let tail = patterns_tail ws l seq frame out h pa line n rest pl.1 in
+        let e : finish p (form_shape l (case_of a ws o) s) ≡ fin = omega arith in
+        tree_then seq frame out (h + 0) p pa fin l a (tree_does a l seq frame out (h + 0) p sd fs.0 pl.0) c st [] st w (λ v. run_whens files top b ws (with_loop l frame) v (run_other files top b o (with_loop l frame))) high (omega arith) refl le
+        (λ v z0 b0 k0. patterns_does ws l seq frame out h pa line n rest sd (whens_all ws l seq frame sd fs.1) pl.1 c st v z0 (run_other files top b o (with_loop l frame)) hits fin tail.2.1.2 (omega arith) refl high b0
+        (λ q z pl1 e1 b1 k1. let gq = finish_size (other_shape l o) (q + 1) in
+        on seq frame c q (v ∷ st) z line Pop (q + 1) st z pl1.0 refl
+        (other_does o l seq frame out h (q + 1) sd (other_all o l seq frame sd fs.2) pl1.2.0 c st z high b1 (after_move seq frame c (finish (q + 1) (other_shape l o)) fin st out (run_other files top b o (with_loop l frame) z) (λ u y r. jump_to seq frame c (finish (q + 1) (other_shape l o)) (size (table.cases_shape l line ws)) line fin (u ∷ st) y pl1.2.1.0 (omega arith) r) k1))) k0)
+        (subst (λ y. A seq frame c y st out (then_do (run_it l frame a w) (λ v. run_whens files top b ws (with_loop l frame) v (run_other files top b o (with_loop l frame))))) e k)
     form_does (case_tests ws o) l s seq frame out h p sd fs pl = λ c st w high le k.
         let line = own l s in let n = size (other_shape l o) + 1 in let rest = part 0 (other_shape l o) (ahead line Jump (size (table.hits_shape l line ws)) (table.hits_shape l line ws)) in
         let q0 = p + size (table.tests_shape l line ws 0 done) in let hits = finish q0 (other_shape l o) + 1 in let fin = finish hits (table.hits_shape l line ws) in
