@@ -9,6 +9,7 @@ use Rattle.iseq_types.specs.declared.instructions.Instr.TheVariants.{Pop, Dup, T
 use Rattle.iseq_types.specs.declared.instructions.Literal.TheVariants.{True, False, Int, Sym}
 use Rattle.iseq_types.specs.declared.sequences.CatchKind.TheVariants as catches
 use Rattle.iseq_types.specs.declared.sequences.CatchRow.{CatchRow}
+use Rattle.iseq_types.specs.declared.sequences.SeqKind.{SeqKind}
 use Rattle.iseq_types.specs.declared.sequences.SeqKind.TheVariants as kinds
 use Rattle.ruby_meaning.specs.Value.{Value, nil, yes, no, number, symbol_named, object, elements, Source, written, class_or_module, Object}
 use Rattle.ruby_meaning.specs.Numbers.{object_class, type_error, frozen_error, name_error, closed_classes}
@@ -1561,3 +1562,38 @@ module _ (files : Files) (b : Tree → Frame → Run) (seqs : ℕ → Routine) (
     whens_all : (ws : Whens) (l : Where) (seq : Routine) (frame : Frame) → StandsIn l frame → FindsWhens seqs bodies l ws → TW l seq frame ws
     whens_all no_when l seq frame sd fs = tt
     whens_all (when ts t ws) l seq frame sd fs = (trees_all ts l seq frame sd fs.0, λ out h p pl. tree_does t l seq frame out h p sd fs.1 pl, whens_all ws l seq frame sd fs.2)
+
+  entry_zero : (l : Where) (ps : Params) (p : ℕ) → entry l p ps zero ≡ p
+  entry_zero l no_param p = refl
+  entry_zero l (required x ps) p = entry_zero l ps p
+  entry_zero l (optional x t ps) p = refl
+  entry_zero l (rest_param x ps) p = entry_zero l ps p
+  entry_zero l (block_param x ps) p = entry_zero l ps p
+
+  -- from the entry on, the parameters that were left out, and then the body
+  params_does : (ps : Params) (l : Where) (seq : Routine) (frame : Frame) (p : ℕ) (s : Shape) (k : ℕ) (c : Outcome) (w : World) (next : Run) → l.clause ≡ false → StandsIn l frame → FindsParams seqs bodies l ps → Placed seq.body.code seq.body.rows [] 0 p (params_shape l ps s) → G l frame w
+      → c ≡ run_defaults files top b ps (with_loop l frame) k next w → ((q : ℕ) (z : World) → Placed seq.body.code seq.body.rows [] 0 q s → G l frame z → c ≡ next z → R seq frame c q [] z) → R seq frame c (entry l p ps k) [] w
+  params_does no_param l seq frame p s k c w next out sd fs pl le e g = g p w pl le e
+  params_does (required x ps) l seq frame p s k c w next out sd fs pl le e g = params_does ps l seq frame p s k c w next out sd fs pl le e g
+  params_does (optional x t ps) l seq frame p s zero c w next out sd fs pl le e g =
+      let q = finish p (shape l t) in
+      tree_does t l seq frame [] (0 + 0) p sd fs.1 pl.0 c [] w (record { tall = refl; bottom = λ y. absurd (let r : true ≡ false = sym y ∙ out in cc r) }) le
+      (whole_then files b seqs bodies seq frame c q [] (run_it l frame t w) (λ v. changing (set_local (with_loop l frame) x v) (run_defaults files top b ps (with_loop l frame) zero next)) e
+      (λ v z eo e1. let b1 : G l frame z = subst (λ o. G l frame (world_of o)) eo (keeps l frame t w le) in
+      on seq frame c q (v ∷ []) z l.first (table.set_local l x) (q + 1) [] (set_local frame x v z) pl.1.0 (ap (λ y. goes (q + 1) [] y) (known.sets l.sight.scopes frame top x v z b1 fs.0))
+      (subst (λ y. R seq frame c y [] (set_local frame x v z)) (entry_zero l ps (q + 1))
+      (params_does ps l seq frame (q + 1) s zero c (set_local frame x v z) next out sd fs.2 pl.1.2 (known.locals l.sight.scopes frame top x v z b1) e1 g))))
+  params_does (optional x t ps) l seq frame p s (suc k) c w next out sd fs pl le e g = params_does ps l seq frame (finish p (shape l t) + 1) s k c w next out sd fs.2 pl.1.2 le e g
+  params_does (rest_param x ps) l seq frame p s k c w next out sd fs pl le e g = params_does ps l seq frame p s k c w next out sd fs pl le e g
+  params_does (block_param x ps) l seq frame p s k c w next out sd fs pl le e g = params_does ps l seq frame p s k c w next out sd fs pl le e g
+
+  -- The sequence of a body, run from its entry, gives what the body means.
+  pub body_does : (ps : Params) (t : Tree) (s : SourcePosition) (l : Where) (kind : SeqKind) (name : Bytes) (frame : Frame) (w : World) → l.clause ≡ false → StandsIn l frame → FindsParams seqs bodies l ps → Finds seqs bodies l t → G l frame w
+      → Runs files b seqs bodies (body_routine l kind name (at s (body ps t))) frame (entry l 0 ps frame.given) [] w (run files top b (at s (body ps t)) (with_loop l frame) w)
+  body_does ps t s l kind name frame w out sd fp fs le =
+      let seq : Routine = body_routine l kind name (at s (body ps t)) in let c : Outcome = run files top b (at s (body ps t)) (with_loop l frame) w in
+      params_does ps l seq frame 0 (part 0 (shape l t) (op l.first Leave done)) frame.given c w (run_it l frame t) out sd fp (placed (form_shape l (body ps t) s) 0) le refl
+      (λ q z pl b1 e. let p1 = finish q (shape l t) in
+      tree_does t l seq frame [] (0 + 0) q sd fs pl.0 c [] z (record { tall = refl; bottom = λ y. absurd (let r : true ≡ false = sym y ∙ out in cc r) }) b1
+      (whole_then files b seqs bodies seq frame c p1 [] (run_it l frame t z) Done (e ∙ then_done (run_it l frame t z))
+      (λ v y eo e1. left_with files b seqs bodies seq frame c p1 (v ∷ []) y (Done v y) (here files b seqs bodies seq frame c p1 (v ∷ []) y l.first Leave pl.1.0) e1)))
