@@ -56,7 +56,7 @@ pub fn slots_are_locals()
     ensures set { (scopes : Scopes) (x : Bytes) (frame : Frame) (v : Value) (w : World) → HasScopes scopes frame w → is_held x scopes ≡ true → set_slot frame (slot_of x scopes) (level_of x scopes) v w ≡ set_local frame x v w }
 {}
 
-/// The environments outward keep their names through whatever a run does, and one that is opened has
+/// The environments outward keep their names through a whole evaluation, and one that is opened has
 /// its own before those of its parent.
 pub fn scopes_are_kept()
     ensures stay { (scopes : Scopes) (frame e : Frame) (w z : World) → HasScopes scopes frame w → laws_of_runs.Leads e w z → HasScopes scopes frame z }

@@ -104,6 +104,7 @@ pub fn runs_end_as_they_may()
 pub fn outcomes_are_placed()
     // One step, whatever its bodies do where a tree is not placed or a frame does not fit.
     ensures step { (files : Files) → ArePlaced files → (fuel : ℕ) (b : Tree → Frame → Run) → StaysStored b → StaysStored (run files fuel b) }
+    ensures stays { (files : Files) → ArePlaced files → StaysStored (evaluate files) }
     ensures evaluated { (files : Files) → ArePlaced files → (c : Around) (t : Tree) (frame : Frame) (w : World) → IsPlaced c t → FrameFits c frame w.objects → IsStored w → PlacedOut c (evaluate files t frame w) }
     ensures program { (files : Files) (prelude : Tree) (p : Program) → ArePlaced files → IsPlaced (at_home file) prelude → EndsAsProgram (program_run files prelude p (start_world p)) }
     ensures read { (source : SourceTree) (files : Files) → ((path : Bytes) → IsRubyFile (bytes_at source path) (files.ruby path)) → ArePlaced files }

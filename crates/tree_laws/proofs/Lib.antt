@@ -9,3 +9,4 @@ pub mod Housing
 pub mod HousedParts
 pub mod HousedStatements
 pub mod LocalsHeld
+pub mod Numbering

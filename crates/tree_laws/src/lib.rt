@@ -2,13 +2,14 @@
 //! product code.
 #![tactic(auto)]
 
-ghost use Rattle.std.specs.Prelude.{◌<◌, ◌^◌, nat_eq, length};
+ghost use Rattle.std.specs.Prelude.{◌<◌, ◌^◌, ℕ, List, nat_eq, length};
 ghost use Rattle.std.specs.List.{IsDistinct, AllByRecursion};
 ghost use Rattle.ruby_lexer.specs.Bytes.{Bytes};
 ghost use Rattle.ruby_lexer.specs.Tokens.{before_end};
 ghost use Rattle.ruby_tree.specs.Tree.{Tree};
 ghost use Rattle.ruby_tree.specs.Reading.{Reads};
-ghost use Rattle.ruby_meaning.specs.Sequences.{places};
+ghost use Rattle.ruby_meaning.specs.Sequences.{places, sequence_number};
+ghost use Rattle.tree_laws.specs.Numbering.{Has};
 ghost use Rattle.ruby_meaning.specs.Levels.{file_sight, IsHoused};
 
 /// No two sequences of a text's tree begin at one place, so that their numbers tell them apart; and
@@ -23,4 +24,10 @@ pub fn sequences_begin_apart()
 /// the body that it stands in, or by one outward.
 pub fn locals_are_held()
     ensures held { (source : Bytes) (t : Tree) → Reads source t → IsHoused (file_sight t) t }
+{}
+
+/// Sequences are numbered in the order of their places: the number of one is less than that of each
+/// that begins behind it.
+pub fn sequence_numbers_rise()
+    ensures rise { (places : List ℕ) (q p : ℕ) → Has q places → q < p → sequence_number places q < sequence_number places p }
 {}

@@ -6,6 +6,7 @@ use Rattle.ruby_meaning.proofs.laws.outcomes_are_placed.Goals as goal
 pub returns : goal.returns
 returns c = record {
   step = run_stays;
+  stays = evaluate_stays;
   evaluated = λ files are c t frame w placed fits s. (evaluate_stays files are c t frame w placed fits s).placed;
   program = λ files prelude p are placed. program_as files are prelude placed p;
   read = files_placed;
