@@ -113,8 +113,8 @@ pub fn outcomes_are_placed()
 {}
 
 /// In a frame that fits, a placed `super` has a method that runs, a placed `return` a method or a
-/// file to leave, and a placed `break` a loop or a block. A run of placed trees makes only frames
-/// that fit, so what stands for these elsewhere is never reached.
+/// file to leave, and a placed `break` a loop or a block. So what stands for these elsewhere is
+/// reached from no frame that fits.
 pub fn odd_endings_are_not_reached()
     ensures super_in_a_method { (c : Around) (frame : Frame) (store : Objects) (o : SourcePosition) → FrameFits c frame store → (ts : Trees) (ks : List ℕ) (v b : Other) → IsPlaced c (at o (super ts ks v b)) → is_some frame.method ≡ true }
     ensures bare_super_in_a_method { (c : Around) (frame : Frame) (store : Objects) (o : SourcePosition) → FrameFits c frame store → (b : Other) → IsPlaced c (at o (bare_super b)) → is_some frame.method ≡ true }
