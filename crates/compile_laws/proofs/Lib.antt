@@ -5,3 +5,4 @@ pub mod Ready
 pub mod Control
 pub mod Leave
 pub mod Clauses
+pub mod Keeps
