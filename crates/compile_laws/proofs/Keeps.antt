@@ -19,9 +19,11 @@ use Rattle.ruby_meaning.proofs.Changes.{keeps_enter, keeps_set_local, keeps_exce
 use Rattle.ruby_meaning.proofs.StepsOfLoads.{same_call}
 use Rattle.ruby_meaning.proofs.StepsOfParts.{same_set_goal, same_path_from, same_string, same_piece, same_values}
 use Rattle.ruby_meaning.proofs.Same.{Same, same_respects}
-use Rattle.ruby_meaning.proofs.Fixed.{evaluates, evaluated}
+use Rattle.ruby_meaning.proofs.Fixed.{evaluates, evaluation_is_fixed, evaluated}
 use Rattle.code_meaning.specs.Slots.{HaveNames, HasScopes}
+use Rattle.code_meaning.proofs.Slots.{slot_read, slot_set}
 use Rattle.compile_laws.proofs.Ready.{Ready, KeepsReady}
+use Rattle.compile_laws.proofs.DoesParts.{Known}
 
 -- Environments that stay.
 
@@ -99,3 +101,15 @@ module _ (scopes : List (List Bytes)) (frame : Frame) (top : ℕ) where
 
     pub ready_tree : (t : Tree) (it : Frame) → KeepsReady scopes frame top (run files top (evaluate files) t it)
     ready_tree t it = ready_same it _ _ (evaluated files top t it)
+
+-- What the induction stands on, of bodies that are evaluated.
+pub known : (files : Files) (top : ℕ) → Known files (evaluate files) top
+known files top = record {
+  trees = λ scopes frame it e t. ready_tree scopes frame top files t it;
+  calls = λ scopes frame it e line self x vs given bare. ready_call scopes frame top files it line self x vs given bare;
+  paths = λ scopes frame it e line xs v. ready_path scopes frame top it line xs v;
+  locals = λ scopes frame n x v w r. ready_set_local scopes frame top frame x v n w r;
+  reads = λ scopes frame n x w r h. slot_read scopes x frame w r.names h;
+  sets = λ scopes frame n x v w r h. slot_set scopes x frame v w r.names h;
+  fixed = λ t frame w le. evaluation_is_fixed files top t frame w le;
+}

@@ -5,4 +5,5 @@ pub mod Ready
 pub mod Control
 pub mod Leave
 pub mod Clauses
+pub mod DoesParts
 pub mod Keeps
