@@ -6,9 +6,9 @@ use Rattle.ruby_meaning.specs.World.{Frame, Outcome, Run}
 use Rattle.ruby_meaning.specs.Files.{Files}
 use Rattle.iseq_types.specs.declared.sequences.CatchRow.{CatchRow}
 use Rattle.code_meaning.specs.Code.{Routine, rows_at}
-use Rattle.code_meaning.specs.Machine.{Step, goes, pends, pends_behind, ends, stuck, call_answer, Meet, passes, lands, rescues, ensures, meet, step, Follows}
+use Rattle.code_meaning.specs.Machine.{Step, goes, pends, pends_behind, ends, stuck, call_answer, Meet, passes, lands, rescues, ensures, meet, step, Follows, Met}
 use Rattle.code_meaning.specs.Frames.{wrapped, Under, at_call, at_rescue, at_ensure, State, proceed, resume, meeting, Turn, steps, calls, drops_frame, looks, hands_on, Turns, none, first, Resumes, Below, Leads}
-use Rattle.code_meaning.proofs.Once.{unrolled, went, left, fell, Met, met, was_behind}
+use Rattle.code_meaning.proofs.Once.{unrolled, went, left, fell, met, was_behind, not_stuck, has_own_row}
 
 module _ (files : Files) (b : Tree → Frame → Run) (seqs : ℕ → Routine) (bodies : ℕ → Tree) where
   abbrev F : Routine → Frame → List CatchRow → List Value → Step → Outcome → Type 0
@@ -17,19 +17,13 @@ module _ (files : Files) (b : Tree → Frame → Run) (seqs : ℕ → Routine) (
   abbrev B : List Under → Outcome → Outcome → Type 0
   B us c o = Below files b seqs bodies us c o
 
-  no_way : (seq : Routine) (frame : Frame) (rs : List CatchRow) (st : List Value) (o : Outcome) → F seq frame rs st stuck o → ⊥
-  no_way seq frame rs st o f = elim f [ ]
-
-  no_row : (seq : Routine) (frame : Frame) (st : List Value) (c o : Outcome) → F seq frame [] st (pends_behind c) o → ⊥
-  no_row seq frame st c o f = elim f [ ]
-
   proceeds : (s : Step) (seq : Routine) (frame : Frame) (rs : List CatchRow) (st : List Value) (us : List Under) (c o : Outcome) → F seq frame rs st s c → B us c o → Leads files b seqs bodies (proceed seq frame rs st s us) o
   proceeds (goes p st1 w) seq frame rs st us c o f y = (c, went files b seqs bodies seq frame rs st p st1 w c f, y)
   proceeds (pends x) seq frame rs st us c o f y = (c, f, y)
-  proceeds (pends_behind x) seq frame [] st us c o f y = no_row seq frame st x c f
+  proceeds (pends_behind x) seq frame [] st us c o f y = absurd (has_own_row files b seqs bodies seq frame st x c f)
   proceeds (pends_behind x) seq frame (r ∷ rs) st us c o f y = (c, was_behind files b seqs bodies seq frame r rs st x c f, y)
   proceeds (ends x) seq frame rs st us c o f y = subst (λ z. B us z o) (sym (left files b seqs bodies seq frame rs st x c f)) y
-  proceeds stuck seq frame rs st us c o f y = no_way seq frame rs st c f
+  proceeds stuck seq frame rs st us c o f y = absurd (not_stuck files b seqs bodies seq frame rs st c f)
 
   meets : (m : Meet) (seq : Routine) (frame : Frame) (r : CatchRow) (rs : List CatchRow) (st : List Value) (x : Outcome) (us : List Under) (c o : Outcome) → Met files b seqs bodies seq frame r rs st x c m → B us c o
       → Leads files b seqs bodies (meeting files b seqs bodies seq frame r rs st x us m) o

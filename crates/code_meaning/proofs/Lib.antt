@@ -3,3 +3,4 @@ pub mod Placing
 pub mod Order
 pub mod Once
 pub mod Frames
+pub mod Slots

@@ -6,7 +6,7 @@ use Rattle.ruby_meaning.specs.World.{World, Frame, Outcome, Run}
 use Rattle.ruby_meaning.specs.Files.{Files}
 use Rattle.iseq_types.specs.declared.sequences.CatchRow.{CatchRow}
 use Rattle.code_meaning.specs.Code.{Routine, rows_at}
-use Rattle.code_meaning.specs.Machine.{Step, goes, pends, pends_behind, ends, Meet, passes, lands, rescues, ensures, meet, cut, after_rescue, after_ensure, rescue_frame, ensure_frame, entered_at, step, Runs, Follows, runs, moves, leaves, falls, behind, passing, landing, rescuing, ensuring}
+use Rattle.code_meaning.specs.Machine.{Step, goes, pends, pends_behind, ends, stuck, Meet, meet, after_rescue, after_ensure, step, Runs, Follows, Met, runs, moves, leaves, falls, behind, passing, landing, rescuing, ensuring}
 
 module _ (files : Files) (b : Tree → Frame → Run) (seqs : ℕ → Routine) (bodies : ℕ → Tree) where
   abbrev R : Routine → Frame → ℕ → List Value → World → Outcome → Type 0
@@ -29,21 +29,24 @@ module _ (files : Files) (b : Tree → Frame → Run) (seqs : ℕ → Routine) (
   pub fell : (seq : Routine) (frame : Frame) (st : List Value) (c o : Outcome) → F seq frame [] st (pends c) o → c ≡ o
   fell seq frame st c o falls = refl
 
-  -- what a row does with what is pending, as the machine finds it
-  abbrev pub Met : Routine → Frame → CatchRow → List CatchRow → List Value → Outcome → Outcome → Meet → Type 0
-  Met seq frame r rs st c o passes = F seq frame rs st (pends c) o
-  Met seq frame r rs st c o (lands v w) = R seq frame r.cont (v ∷ cut r.sp st) w o
-  Met seq frame r rs st c o (rescues v w) = (c1 : Outcome) × R (seqs r.seq) (rescue_frame (seqs r.seq) frame v) 0 (v ∷ []) (entered_at r.seq frame w) c1 × F seq frame rs st (after_rescue r st c1) o
-  Met seq frame r rs st c o (ensures w) = (c1 : Outcome) × R (seqs r.seq) (ensure_frame (seqs r.seq) frame) 0 [] (entered_at r.seq frame w) c1 × F seq frame rs st (after_ensure r st c c1) o
+  abbrev M : Routine → Frame → CatchRow → List CatchRow → List Value → Outcome → Outcome → Meet → Type 0
+  M seq frame r rs st c o m = Met files b seqs bodies seq frame r rs st c o m
 
-  pub met : (seq : Routine) (frame : Frame) (r : CatchRow) (rs : List CatchRow) (st : List Value) (c o : Outcome) → F seq frame (r ∷ rs) st (pends c) o → Met seq frame r rs st c o (meet r c)
-  met seq frame r rs st c o (passing e f) = subst (λ m. Met seq frame r rs st c o m) (sym e) f
-  met seq frame r rs st c o (landing v w e f) = subst (λ m. Met seq frame r rs st c o m) (sym e) f
-  met seq frame r rs st c o (rescuing v w c1 e x f) = subst (λ m. Met seq frame r rs st c o m) (sym e) (c1, x, f)
-  met seq frame r rs st c o (ensuring w c1 e x f) = subst (λ m. Met seq frame r rs st c o m) (sym e) (c1, x, f)
+  pub met : (seq : Routine) (frame : Frame) (r : CatchRow) (rs : List CatchRow) (st : List Value) (c o : Outcome) → F seq frame (r ∷ rs) st (pends c) o → M seq frame r rs st c o (meet r c)
+  met seq frame r rs st c o (passing e f) = subst (λ m. M seq frame r rs st c o m) (sym e) f
+  met seq frame r rs st c o (landing v w e f) = subst (λ m. M seq frame r rs st c o m) (sym e) f
+  met seq frame r rs st c o (rescuing v w c1 e x f) = subst (λ m. M seq frame r rs st c o m) (sym e) (c1, x, f)
+  met seq frame r rs st c o (ensuring w c1 e x f) = subst (λ m. M seq frame r rs st c o m) (sym e) (c1, x, f)
 
   pub was_behind : (seq : Routine) (frame : Frame) (r : CatchRow) (rs : List CatchRow) (st : List Value) (c o : Outcome) → F seq frame (r ∷ rs) st (pends_behind c) o → F seq frame rs st (pends c) o
   was_behind seq frame r rs st c o (behind f) = f
+
+  -- no run lacks what its instruction takes, and none has breaks to its call without the call's own row
+  pub not_stuck : (seq : Routine) (frame : Frame) (rs : List CatchRow) (st : List Value) (o : Outcome) → F seq frame rs st stuck o → ⊥
+  not_stuck seq frame rs st o f = elim f [ ]
+
+  pub has_own_row : (seq : Routine) (frame : Frame) (st : List Value) (c o : Outcome) → F seq frame [] st (pends_behind c) o → ⊥
+  has_own_row seq frame st c o f = elim f [ ]
 
   -- One outcome.
 
@@ -56,11 +59,11 @@ module _ (files : Files) (b : Tree → Frame → Run) (seqs : ℕ → Routine) (
     one_end {seq} {frame} {rs} {st} {s} {o} leaves o1 g = left seq frame rs st o o1 g
     one_end {seq} {frame} {rs} {st} {s} {o} falls o1 g = fell seq frame st o o1 g
     one_end {seq} {frame} {rs} {st} (behind {r = r} {rs = rs1} {c = c} f) o1 g = one_end f o1 (was_behind seq frame r rs1 st c o1 g)
-    one_end {seq} {frame} {rs} {st} (passing {r = r} {rs = rs1} {c = c} e f) o1 g = one_end f o1 (subst (λ m. Met seq frame r rs1 st c o1 m) e (met seq frame r rs1 st c o1 g))
-    one_end {seq} {frame} {rs} {st} (landing {r = r} {rs = rs1} {c = c} v w e f) o1 g = one_run f o1 (subst (λ m. Met seq frame r rs1 st c o1 m) e (met seq frame r rs1 st c o1 g))
+    one_end {seq} {frame} {rs} {st} (passing {r = r} {rs = rs1} {c = c} e f) o1 g = one_end f o1 (subst (λ m. M seq frame r rs1 st c o1 m) e (met seq frame r rs1 st c o1 g))
+    one_end {seq} {frame} {rs} {st} (landing {r = r} {rs = rs1} {c = c} v w e f) o1 g = one_run f o1 (subst (λ m. M seq frame r rs1 st c o1 m) e (met seq frame r rs1 st c o1 g))
     one_end {seq} {frame} {rs} {st} (rescuing {r = r} {rs = rs1} {c = c} v w c1 e x f) o1 g =
-        let y = subst (λ m. Met seq frame r rs1 st c o1 m) e (met seq frame r rs1 st c o1 g) in
+        let y = subst (λ m. M seq frame r rs1 st c o1 m) e (met seq frame r rs1 st c o1 g) in
         one_end f o1 (subst (λ z. F seq frame rs1 st (after_rescue r st z) o1) (sym (one_run x y.0 y.1)) y.2)
     one_end {seq} {frame} {rs} {st} (ensuring {r = r} {rs = rs1} {c = c} w c1 e x f) o1 g =
-        let y = subst (λ m. Met seq frame r rs1 st c o1 m) e (met seq frame r rs1 st c o1 g) in
+        let y = subst (λ m. M seq frame r rs1 st c o1 m) e (met seq frame r rs1 st c o1 g) in
         one_end f o1 (subst (λ z. F seq frame rs1 st (after_ensure r st c z) o1) (sym (one_run x y.0 y.1)) y.2)

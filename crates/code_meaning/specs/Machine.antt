@@ -268,15 +268,15 @@ module _ (files : Files) (b : Tree → Frame → Run) (seqs : ℕ → Routine) (
   method_by zero frame l p st w x on_self = stuck
   method_by (suc q) frame l p st w x on_self = drops (p + 1) st (define_method frame l x (bodies q) on_self w)
 
-  abbrev pub class_opened : ℕ → Frame → ℕ → Bytes → Value → (ℕ → Run) → Run
-  class_opened zero frame l x v go = class_named frame l x go
-  class_opened (suc zero) frame l x v go = class_below frame l x v go
-  class_opened n frame l x v go = module_of_name frame l x go
+  -- a class or a module is opened whose body is the sequence of this number, less 1: a class, a class below this value, or a module
+  abbrev pub opened : ℕ → Frame → ℕ → ℕ → Run
+  opened q frame l = open_class frame l (bodies q) (b (bodies q))
 
-  -- a class or a module is opened whose body is the sequence of this number, less 1
   abbrev pub class_by : ℕ → ℕ → Frame → ℕ → ℕ → List Value → World → Bytes → Value → Step
-  class_by zero n frame l p st w x v = stuck
-  class_by (suc q) n frame l p st w x v = answer (p + 1) st (class_opened n frame l x v (open_class frame l (bodies q) (b (bodies q))) w)
+  class_by (suc q) zero frame l p st w x v = answer (p + 1) st (class_named frame l x (opened q frame l) w)
+  class_by (suc q) (suc zero) frame l p st w x v = answer (p + 1) st (class_below frame l x v (opened q frame l) w)
+  class_by (suc q) (suc (suc zero)) frame l p st w x v = answer (p + 1) st (module_of_name frame l x (opened q frame l) w)
+  class_by q n frame l p st w x v = stuck
 
   -- goes on with what was pending: in a rescue part the exception, in an ensure part what the frame below has
   abbrev pub goes_on_pending : SeqKind → Frame → World → Step
@@ -306,7 +306,7 @@ module _ (files : Files) (b : Tree → Frame → Run) (seqs : ℕ → Routine) (
   act kind frame p st w l Dup = with_top st (λ v rest. goes (p + 1) (v ∷ (v ∷ rest)) w)
   act kind frame p st w l Swap = with_top st (λ v st1. with_top st1 (λ u rest. goes (p + 1) (u ∷ (v ∷ rest)) w))
   act kind frame p st w l (TopN n) = with_item n st (λ v. goes (p + 1) (v ∷ st) w)
-  act kind frame p st w l (SetN n) = with_top st (λ v rest. goes (p + 1) (put_at n v st) w)
+  act kind frame p st w l (SetN n) = with_top st (λ v rest. with_item n st (λ u. goes (p + 1) (put_at n v st) w))
   act kind frame p st w l (AdjustStack n) = with_args n [] st (λ vs rest. goes (p + 1) rest w)
   act kind frame p st w l PutNil = goes (p + 1) (nil ∷ st) w
   act kind frame p st w l PutSelf = goes (p + 1) (frame.self_value ∷ st) w
@@ -376,3 +376,12 @@ module _ (files : Files) (b : Tree → Frame → Run) (seqs : ℕ → Routine) (
       ensuring : {seq : Routine} {frame : Frame} {r : CatchRow} {rs : List CatchRow} {st : List Value} {c o : Outcome} (w : World) (c1 : Outcome)
           → meet r c ≡ ensures w → Runs (seqs r.seq) (ensure_frame (seqs r.seq) frame) 0 [] (entered_at r.seq frame w) c1
           → Follows seq frame rs st (after_ensure r st c c1) o → Follows seq frame (r ∷ rs) st (pends c) o
+
+  -- what a run goes on with where its next row does this with what is pending
+  abbrev pub Met : Routine → Frame → CatchRow → List CatchRow → List Value → Outcome → Outcome → Meet → Type 0
+  Met seq frame r rs st c o passes = Follows seq frame rs st (pends c) o
+  Met seq frame r rs st c o (lands v w) = Runs seq frame r.cont (v ∷ cut r.sp st) w o
+  Met seq frame r rs st c o (rescues v w) =
+      (c1 : Outcome) × Runs (seqs r.seq) (rescue_frame (seqs r.seq) frame v) 0 (v ∷ []) (entered_at r.seq frame w) c1 × Follows seq frame rs st (after_rescue r st c1) o
+  Met seq frame r rs st c o (ensures w) =
+      (c1 : Outcome) × Runs (seqs r.seq) (ensure_frame (seqs r.seq) frame) 0 [] (entered_at r.seq frame w) c1 × Follows seq frame rs st (after_ensure r st c c1) o

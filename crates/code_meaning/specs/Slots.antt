@@ -1,10 +1,11 @@
 -- Locals by slot and level. A level counts environments outward, and a slot is a place in the names of one.
-use Rattle.std.specs.Prelude.{◌≡◌, ◌<◌, ℕ, zero, suc, Bool, true, false, cond, ◌||◌, List, [], ◌∷◌, length, map, Option, Some, None, slice_get, ⊤}
-use Rattle.ruby_lexer.specs.Bytes.{same, is_in}
+use Rattle.std.specs.Prelude.{◌≡◌, ◌<◌, ℕ, zero, suc, List, [], ◌∷◌, length, Option, Some, None, slice_get, ⊤}
 use Rattle.ruby_tree.specs.Names.{Bytes}
 use Rattle.ruby_meaning.specs.Value.{Value, nil}
 use Rattle.ruby_meaning.specs.World.{Environment, World, Frame}
 use Rattle.ruby_meaning.specs.Definitions.{parent_in}
+use Rattle.ruby_meaning.specs.Laws.{names_in}
+use Rattle.ruby_meaning.specs.Levels.{Scopes}
 
 abbrev pub parent_of : Option Environment → Option ℕ
 parent_of None = None
@@ -52,34 +53,12 @@ set_slot_in slot v (Some n) w = record w { environments = with_slot_set w.enviro
 abbrev pub set_slot : Frame → ℕ → ℕ → Value → World → World
 set_slot frame slot level v w = set_slot_in slot v (home frame level w) w
 
--- What a name finds: the names of the environments outward are known, the innermost first.
-
--- the place of a name in a list
-abbrev pub place_in : Bytes → List Bytes → ℕ
-place_in x [] = 0
-place_in x (y ∷ ys) = cond (same x y) 0 (suc (place_in x ys))
-
-abbrev pub is_seen : Bytes → List (List Bytes) → Bool
-is_seen x [] = false
-is_seen x (ys ∷ scopes) = is_in x ys || is_seen x scopes
-
-abbrev pub level_of : Bytes → List (List Bytes) → ℕ
-level_of x [] = 0
-level_of x (ys ∷ scopes) = cond (is_in x ys) 0 (suc (level_of x scopes))
-
-abbrev pub slot_of : Bytes → List (List Bytes) → ℕ
-slot_of x [] = 0
-slot_of x (ys ∷ scopes) = cond (is_in x ys) (place_in x ys) (slot_of x scopes)
-
-abbrev pub names_of : List (Bytes × Value) → List Bytes
-names_of bs = map (λ b. b.0) bs
-
 -- The environments outward of this one, each below the one before, have these names.
-abbrev pub HaveNames : ℕ → List (List Bytes) → List Environment → Option ℕ → Type 0
+abbrev pub HaveNames : ℕ → Scopes → List Environment → Option ℕ → Type 0
 HaveNames below [] all p = ⊤
 HaveNames below (xs ∷ scopes) all None = ⊥
-HaveNames below (xs ∷ scopes) all (Some n) = (n < below) × (e : Environment) × (slice_get all n ≡ Some e) × (names_of e.locals ≡ xs) × HaveNames n scopes all e.parent
+HaveNames below (xs ∷ scopes) all (Some n) = (n < below) × (e : Environment) × (slice_get all n ≡ Some e) × (names_in e.locals ≡ xs) × HaveNames n scopes all e.parent
 
 -- The frame's environments have these names.
-abbrev pub HasScopes : List (List Bytes) → Frame → World → Type 0
+abbrev pub HasScopes : Scopes → Frame → World → Type 0
 HasScopes scopes frame w = HaveNames (length w.environments) scopes w.environments (Some frame.environment)

@@ -1,11 +1,19 @@
 //! What holds of code and of its running, over the definitions alone.
-ghost use Rattle.std.specs.Prelude.{◌≡◌, ℕ, List, []};
+ghost use Rattle.std.specs.Prelude.{◌≡◌, ℕ, true, List, [], ◌∷◌, length, Option};
+ghost use Rattle.iseq_types.specs.declared.sequences.CatchRow.{CatchRow};
+ghost use Rattle.ruby_tree.specs.Names.{Bytes};
 ghost use Rattle.ruby_tree.specs.Tree.{Tree};
 ghost use Rattle.ruby_meaning.specs.Value.{Value};
 ghost use Rattle.ruby_meaning.specs.World.{World, Frame, Outcome, Run};
+ghost use Rattle.ruby_meaning.specs.Calls.{with_environment, next_environment};
+ghost use Rattle.ruby_meaning.specs.Definitions.{read_local, set_local};
 ghost use Rattle.ruby_meaning.specs.Files.{Files};
-ghost use Rattle.code_meaning.specs.Code.{Routine, Shape, finish, lines_of, rows_of, Placed, Rising};
-ghost use Rattle.code_meaning.specs.Machine.{Runs};
+ghost use Rattle.ruby_meaning.specs.Laws.{names_in};
+ghost use Rattle.ruby_meaning.specs.Laws as laws_of_runs;
+ghost use Rattle.ruby_meaning.specs.Levels.{Scopes, is_held, level_of, slot_of};
+ghost use Rattle.code_meaning.specs.Code.{Routine, Shape, finish, lines_of, rows_of, rows_at, Placed, Rising};
+ghost use Rattle.code_meaning.specs.Machine.{goes, pends, pends_behind, ends, stuck, meet, step, Runs, Follows, Met};
+ghost use Rattle.code_meaning.specs.Slots.{read_slot, set_slot, HaveNames, HasScopes};
 ghost use Rattle.code_meaning.specs.Frames.{State, Turn, Turns, Leads};
 
 /// Code stands in its own lines, and the rows that hold its places are its own; and the rows stand
@@ -20,9 +28,37 @@ pub fn runs_have_one_outcome()
     ensures { (files : Files) (b : Tree → Frame → Run) (seqs : ℕ → Routine) (bodies : ℕ → Tree) (seq : Routine) (frame : Frame) (p : ℕ) (st : List Value) (w : World) (o o1 : Outcome) → Runs files b seqs bodies seq frame p st w o → Runs files b seqs bodies seq frame p st w o1 → o ≡ o1 }
 {}
 
+/// What a run has to go on with, by the step that is taken: what the step leads to; on at a place; left
+/// with an outcome; with no row left; what the next row does with what is pending; the rows behind a
+/// call's own. No run is stuck, and none lacks the row of a call with a literal block.
+pub fn runs_go_by_steps()
+    ensures unrolled { (files : Files) (b : Tree → Frame → Run) (seqs : ℕ → Routine) (bodies : ℕ → Tree) (seq : Routine) (frame : Frame) (p : ℕ) (st : List Value) (w : World) (o : Outcome) → Runs files b seqs bodies seq frame p st w o → Follows files b seqs bodies seq frame (rows_at p seq.body.rows) st (step files b seqs bodies seq frame p st w) o }
+    ensures went { (files : Files) (b : Tree → Frame → Run) (seqs : ℕ → Routine) (bodies : ℕ → Tree) (seq : Routine) (frame : Frame) (rs : List CatchRow) (st : List Value) (p : ℕ) (st1 : List Value) (w : World) (o : Outcome) → Follows files b seqs bodies seq frame rs st (goes p st1 w) o → Runs files b seqs bodies seq frame p st1 w o }
+    ensures left { (files : Files) (b : Tree → Frame → Run) (seqs : ℕ → Routine) (bodies : ℕ → Tree) (seq : Routine) (frame : Frame) (rs : List CatchRow) (st : List Value) (c o : Outcome) → Follows files b seqs bodies seq frame rs st (ends c) o → c ≡ o }
+    ensures fell { (files : Files) (b : Tree → Frame → Run) (seqs : ℕ → Routine) (bodies : ℕ → Tree) (seq : Routine) (frame : Frame) (st : List Value) (c o : Outcome) → Follows files b seqs bodies seq frame [] st (pends c) o → c ≡ o }
+    ensures met { (files : Files) (b : Tree → Frame → Run) (seqs : ℕ → Routine) (bodies : ℕ → Tree) (seq : Routine) (frame : Frame) (r : CatchRow) (rs : List CatchRow) (st : List Value) (c o : Outcome) → Follows files b seqs bodies seq frame (r ∷ rs) st (pends c) o → Met files b seqs bodies seq frame r rs st c o (meet r c) }
+    ensures was_behind { (files : Files) (b : Tree → Frame → Run) (seqs : ℕ → Routine) (bodies : ℕ → Tree) (seq : Routine) (frame : Frame) (r : CatchRow) (rs : List CatchRow) (st : List Value) (c o : Outcome) → Follows files b seqs bodies seq frame (r ∷ rs) st (pends_behind c) o → Follows files b seqs bodies seq frame rs st (pends c) o }
+    ensures not_stuck { (files : Files) (b : Tree → Frame → Run) (seqs : ℕ → Routine) (bodies : ℕ → Tree) (seq : Routine) (frame : Frame) (rs : List CatchRow) (st : List Value) (o : Outcome) → Follows files b seqs bodies seq frame rs st stuck o → ⊥ }
+    ensures has_own_row { (files : Files) (b : Tree → Frame → Run) (seqs : ℕ → Routine) (bodies : ℕ → Tree) (seq : Routine) (frame : Frame) (st : List Value) (c o : Outcome) → Follows files b seqs bodies seq frame [] st (pends_behind c) o → ⊥ }
+{}
+
 /// Each turn of a machine with a list of frames keeps the outcome that its state leads to, and so do
 /// any number of turns.
 pub fn turns_keep_the_outcome()
     ensures one { (files : Files) (b : Tree → Frame → Run) (seqs : ℕ → Routine) (bodies : ℕ → Tree) (s s1 : State) (o : Outcome) → Turn files b seqs bodies s s1 → Leads files b seqs bodies s o → Leads files b seqs bodies s1 o }
     ensures all { (files : Files) (b : Tree → Frame → Run) (seqs : ℕ → Routine) (bodies : ℕ → Tree) (s s1 : State) (o : Outcome) → Turns files b seqs bodies s s1 → Leads files b seqs bodies s o → Leads files b seqs bodies s1 o }
+{}
+
+/// Where the environments outward have these names, the slot at a local's level is what its name finds:
+/// to read it and to set it.
+pub fn slots_are_locals()
+    ensures read { (scopes : Scopes) (x : Bytes) (frame : Frame) (w : World) → HasScopes scopes frame w → is_held x scopes ≡ true → read_slot frame (slot_of x scopes) (level_of x scopes) w ≡ read_local frame x w }
+    ensures set { (scopes : Scopes) (x : Bytes) (frame : Frame) (v : Value) (w : World) → HasScopes scopes frame w → is_held x scopes ≡ true → set_slot frame (slot_of x scopes) (level_of x scopes) v w ≡ set_local frame x v w }
+{}
+
+/// The environments outward keep their names through whatever a run does, and one that is opened has
+/// its own before those of its parent.
+pub fn scopes_are_kept()
+    ensures stay { (scopes : Scopes) (frame e : Frame) (w z : World) → HasScopes scopes frame w → laws_of_runs.Leads e w z → HasScopes scopes frame z }
+    ensures opened { (scopes : Scopes) (parent : Option ℕ) (locals : List (Bytes × Value)) (frame : Frame) (w : World) → frame.environment ≡ next_environment w → HaveNames (length w.environments) scopes w.environments parent → HasScopes (names_in locals ∷ scopes) frame (with_environment parent locals w) }
 {}

@@ -416,6 +416,7 @@ module _ (files : Files) (b : Tree → Frame → Run) (seqs : ℕ → Routine) (
     names = subst (λ all. HaveNames (length all) scopes all (Some it.environment)) (sym (enter_stays source place w))
         (subst (λ m. HaveNames (length w.environments) scopes w.environments (Some m)) (sym e) r.names);
   }
+
   -- ---- several values and leaving
 
   many_values : (vs : List Value) (next : Value → Run) → 1 < length vs → of_values vs next ≡ make_array vs next

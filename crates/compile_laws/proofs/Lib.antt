@@ -6,3 +6,4 @@ pub mod Control
 pub mod Leave
 pub mod Clauses
 pub mod Does
+pub mod Keeps

@@ -8,7 +8,7 @@ use Rattle.ruby_tree.specs.Build.{Given, nothing}
 use Rattle.ruby_tree.specs.Grammar.{Rels, Trailing, Then, LoopStart, Newlines, MethodName, BlockParams, Bars, ExceptionName, MoreTargets, Targets, OnSelf, Several, Element, Elements, Pair, PairList, Passed, Items, InBrackets, CommandItems, Classes, Clauses, Else, Rescued, Body, DoBlock, Block, CallBlock, CommandBlock, CallItems, TextParts, ElseBranches, WhenList, MethodParams, ParameterList, Parameters, Superclass, Literal, Primary, Postfixes, Postfix}
 use Rattle.ruby_tree.specs.Grammar as g
 use Rattle.reference_parser.proofs.Tests.{mark_kind, word_kind}
-use Rattle.reference_laws.proofs.Sited.{LinedParts, Lined, past, lined_literal, Sits, spot_sits, GoodTree, GoodTrees, GoodOther, GoodPairs, GoodPieces, GoodWhens, GoodRescues, GoodParams, GoodGiven, quiet, good_none, good_more, good_one, good_without, good_with, good_no_pair, good_pair, good_no_piece, good_plain, good_code, good_no_when, good_when, good_no_clause, good_clause, good_no_param, good_required, good_optional, good_rest, good_block, good_joined, good_array, good_hash, good_send, good_yield, good_super, good_bare_super, good_if, good_while, good_case, good_tests, good_retry, good_rescue, good_ensure, good_rescue_sequence, good_ensure_sequence, good_body, good_method, good_class, good_module, good_or_empty, good_call, good_bare, good_longer, good_symbol_block, good_texts, good_symbols, Got, got}
+use Rattle.reference_laws.proofs.Sited.{LinedParts, Lined, past, lined_literal, Sits, spot_sits, GoodTree, GoodTrees, GoodOther, GoodPairs, GoodPieces, GoodWhens, GoodRescues, GoodParams, GoodGiven, quiet, good_none, good_more, good_one, good_without, good_with, good_no_pair, good_pair, good_no_piece, good_plain, good_code, good_no_when, good_when, good_no_clause, good_clause, good_no_param, good_required, good_optional, good_rest, good_block, good_joined, good_array, good_hash, good_send, good_yield, good_super, good_bare_super, good_if, good_while, good_case, good_tests, good_retry, good_rescue, good_ensure, good_ensure_sequence, good_body, good_method, good_class, good_module, good_or_empty, good_call, good_bare, good_longer, good_symbol_block, good_texts, good_symbols, Got, got}
 
 pub record Sitting (L : ℕ → ℕ) (R : Rels) : Type 0 where
   pub stmts : {d : DoBlockOwner} {w r : Toks} {s z : Scope} {t : Tree} → R.stmts d w s t r z → Lined L w → Got L (GoodTree L t) r
@@ -88,7 +88,7 @@ module _ (L : ℕ → ℕ) (source : Bytes) where
     sit_elements (g.Elements.another h i j) e = let a = sit_element h e in let b = sit_elements j (past L a.rest) in got L (good_more L a.part b.part) b.rest
 
     pub sit_pair : {d : DoBlockOwner} {s z : Scope} {k x : Tree} {w r : Toks} → Pair source R d w s k x r z → Lined L w → Got L (GoodTree L k × GoodTree L x) r
-    sit_pair (g.Pair.label h t i) e = let a = S.arg i (past L e) in got L (quiet L (λ c. refl), a.part) a.rest
+    sit_pair (g.Pair.label h t i) e = let a = S.arg i (past L e) in got L (quiet L (λ c. refl) (λ c. (refl, tt)), a.part) a.rest
     sit_pair (g.Pair.arrow h i j) e = let a = S.arg h e in let b = S.arg j (past L a.rest) in got L (a.part, b.part) b.rest
 
     pub sit_pair_list : {d : DoBlockOwner} {s z : Scope} {ps : Pairs} {w r : Toks} → PairList source R d w s ps r z → Lined L w → Got L (GoodPairs L ps) r
@@ -135,7 +135,7 @@ module _ (L : ℕ → ℕ) (source : Bytes) where
     pub sit_rescued : {o : SourcePosition} {d : DoBlockOwner} {s z : Scope} {t : Tree} {w r : Toks} → Rescued source R d o w s t r z → Lined L w → Got L (GoodTree L t) r
     sit_rescued (g.Rescued.plain h i) e = S.stmts h e
     sit_rescued (g.Rescued.clauses h i j) e =
-        let a = S.stmts h e in let c = sit_clauses i a.rest in let n = sit_else j c.rest in got L (good_rescue L a.part n.part (good_rescue_sequence L c.part)) n.rest
+        let a = S.stmts h e in let c = sit_clauses i a.rest in let n = sit_else j c.rest in got L (good_rescue L a.part n.part c.part) n.rest
 
     pub sit_body : {o : SourcePosition} {d : DoBlockOwner} {s z : Scope} {t : Tree} {w r : Toks} → Body source R d o w s t r z → Lined L w → Got L (GoodTree L t) r
     sit_body (g.Body.plain h i) e = sit_rescued h e
@@ -206,17 +206,17 @@ module _ (L : ℕ → ℕ) (source : Bytes) where
     sit_superclass (g.Superclass.given h i) e = let a = S.arg i (past L e) in got L (good_with L a.part) a.rest
 
     pub sit_literal : {s z : Scope} {t : Tree} {w r : Toks} → Literal source R w s t r z → Lined L w → Got L (GoodTree L t) r
-    sit_literal (g.Literal.nil_word h) e = got L (quiet L (λ c. refl)) (past L e)
-    sit_literal (g.Literal.true_word h) e = got L (quiet L (λ c. refl)) (past L e)
-    sit_literal (g.Literal.false_word h) e = got L (quiet L (λ c. refl)) (past L e)
-    sit_literal (g.Literal.file_word h) e = got L (quiet L (λ c. refl)) (past L e)
-    sit_literal (g.Literal.folder_word h) e = got L (quiet L (λ c. refl)) (past L e)
-    sit_literal (g.Literal.line_word h) e = got L (quiet L (λ c. refl)) (past L e)
-    sit_literal (g.Literal.number h) e = got L (quiet L (λ c. refl)) (past L e)
-    sit_literal (g.Literal.negative_number h i) e = got L (quiet L (λ c. refl)) (past L (past L e))
-    sit_literal (g.Literal.plain_text h i) e = got L (quiet L (λ c. refl)) (past L e)
+    sit_literal (g.Literal.nil_word h) e = got L (quiet L (λ c. refl) (λ c. (refl, tt))) (past L e)
+    sit_literal (g.Literal.true_word h) e = got L (quiet L (λ c. refl) (λ c. (refl, tt))) (past L e)
+    sit_literal (g.Literal.false_word h) e = got L (quiet L (λ c. refl) (λ c. (refl, tt))) (past L e)
+    sit_literal (g.Literal.file_word h) e = got L (quiet L (λ c. refl) (λ c. (refl, tt))) (past L e)
+    sit_literal (g.Literal.folder_word h) e = got L (quiet L (λ c. refl) (λ c. (refl, tt))) (past L e)
+    sit_literal (g.Literal.line_word h) e = got L (quiet L (λ c. refl) (λ c. (refl, tt))) (past L e)
+    sit_literal (g.Literal.number h) e = got L (quiet L (λ c. refl) (λ c. (refl, tt))) (past L e)
+    sit_literal (g.Literal.negative_number h i) e = got L (quiet L (λ c. refl) (λ c. (refl, tt))) (past L (past L e))
+    sit_literal (g.Literal.plain_text h i) e = got L (quiet L (λ c. refl) (λ c. (refl, tt))) (past L e)
     sit_literal (g.Literal.text_with_code h i j) e = got L (good_joined L (sit_text j (lined_literal L _ _ h e))) (past L e)
-    sit_literal (g.Literal.symbol_name h) e = got L (quiet L (λ c. refl)) (past L e)
+    sit_literal (g.Literal.symbol_name h) e = got L (quiet L (λ c. refl) (λ c. (refl, tt))) (past L e)
     sit_literal (g.Literal.word_list {w = w} {fs = fs} h) e = got L (good_array L (good_texts L (position w) fs)) (past L e)
     sit_literal (g.Literal.symbol_list {w = w} {fs = fs} h) e = got L (good_array L (good_symbols L (position w) fs)) (past L e)
 
@@ -227,19 +227,19 @@ module _ (L : ℕ → ℕ) (source : Bytes) where
     sit_primary (g.Primary.empty_hash h i) e = got L (good_hash L (good_no_pair L)) (past L (past L e))
     sit_primary (g.Primary.pairs h i j k) e = let a = sit_pair_list i (past L e) in got L (good_hash L a.part) (past L (sit_trailing j a.rest))
     sit_primary (g.Primary.brackets h i j) e = let a = S.stmts i (past L e) in got L a.part (past L a.rest)
-    sit_primary (g.Primary.self_word h) e = got L (quiet L (λ c. refl)) (past L e)
-    sit_primary (g.Primary.local_name h i j k) e = got L (quiet L (λ c. refl)) (past L e)
+    sit_primary (g.Primary.self_word h) e = got L (quiet L (λ c. refl) (λ c. (refl, tt))) (past L e)
+    sit_primary (g.Primary.local_name h i j k) e = got L (quiet L (λ c. refl) (λ c. (refl, tt))) (past L e)
     sit_primary (g.Primary.bare_name {w = w} {s = s} h i j k l) e = got L (good_bare L (position w) s (word source w)) (past L e)
     sit_primary (g.Primary.name_with_block h i j k) e =
         let b = sit_block k (past L e) in got L (good_send L (good_without L) (good_none L) (good_without L) (good_with L b.part)) b.rest
     sit_primary (g.Primary.called_name h i j k) e =
         let a = sit_in_brackets j (past L e) in let b = sit_call_block k a.part.block a.rest in got L (good_send L (good_without L) a.part.trees a.part.value b.part) b.rest
-    sit_primary (g.Primary.instance_name h) e = got L (quiet L (λ c. refl)) (past L e)
-    sit_primary (g.Primary.global_name h) e = got L (quiet L (λ c. refl)) (past L e)
-    sit_primary (g.Primary.constant h i) e = got L (quiet L (λ c. refl)) (past L e)
+    sit_primary (g.Primary.instance_name h) e = got L (quiet L (λ c. refl) (λ c. (refl, tt))) (past L e)
+    sit_primary (g.Primary.global_name h) e = got L (quiet L (λ c. refl) (λ c. (refl, tt))) (past L e)
+    sit_primary (g.Primary.constant h i) e = got L (quiet L (λ c. refl) (λ c. (refl, tt))) (past L e)
     sit_primary (g.Primary.called_constant h i j k) e =
         let a = sit_in_brackets j (past L e) in let b = sit_call_block k a.part.block a.rest in got L (good_send L (good_without L) a.part.trees a.part.value b.part) b.rest
-    sit_primary (g.Primary.top_constant h i) e = got L (quiet L (λ c. refl)) (past L (past L e))
+    sit_primary (g.Primary.top_constant h i) e = got L (quiet L (λ c. refl) (λ c. (refl, tt))) (past L (past L e))
     sit_primary (g.Primary.bare_yield h i j) e = got L (good_yield L (word_sits (codes "yield") _ h e) (good_none L)) (past L e)
     sit_primary (g.Primary.called_yield h i j k) e = let a = sit_in_brackets j (past L e) in got L (good_yield L (word_sits (codes "yield") _ h e) a.part.trees) a.rest
     sit_primary (g.Primary.super_alone h i j k) e = let b = sit_call_block k (good_without L) (past L e) in got L (good_bare_super L (word_sits (codes "super") _ h e) b.part) b.rest

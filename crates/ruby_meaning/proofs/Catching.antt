@@ -22,7 +22,7 @@ breaks_out e inner calls loops to_loop h = loops h
 breaks_out e inner calls loops (to_call k) h = calls k h
 
 -- What is caught here or goes on has the same world, and the same turns more.
-here_world : (t : Bool) (v : Value) (o : Outcome) (w : World) → world_of o ≡ w → world_of (if_here t (Done v w) o) ≡ w
+pub here_world : (t : Bool) (v : Value) (o : Outcome) (w : World) → world_of o ≡ w → world_of (if_here t (Done v w) o) ≡ w
 here_world true v o w h = refl
 here_world false v o w h = h
 

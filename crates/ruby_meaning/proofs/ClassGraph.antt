@@ -7,7 +7,7 @@ use Rattle.std.proofs.lemmas.List.Folds.{list_any-append}
 use Rattle.std.proofs.lemmas.Map.Steps.{length-le_from_distinct_below}
 use Rattle.ruby_tree.specs.Names.{Bytes}
 use Rattle.ruby_meaning.specs.Value.{MethodBody, Kind, string, elements, table, span, closed, plain, class_or_module, Object, Objects}
-use Rattle.ruby_meaning.specs.Store.{new_string, is_one_of, kind_at, with_kind, class_at, is_class_or_module, without_number, each_once, all_lines, line_if, line_of, ancestors, superclasses, rows_of, rows_at, row_named, found_or, find_in}
+use Rattle.ruby_meaning.specs.Store.{no_class, new_string, is_one_of, kind_at, with_kind, class_in, class_at, is_class_or_module, without_number, each_once, all_lines, line_if, line_of, ancestors, superclasses, rows_of, rows_at, row_named, found_or, find_in}
 use Rattle.ruby_meaning.specs.Natives.OfModule.{with_module}
 use Rattle.ruby_meaning.specs.PlainRun.{Program, start_store}
 use Rattle.ruby_meaning.specs.ClassGraph.{number_if, above_in, above, IsGraph}
@@ -188,6 +188,42 @@ module _ (store : Objects) (graph : IsGraph store) where
   pub enough_superclasses : (k c : ℕ) → is_class_or_module (kind_at store c) ≡ true → length store ≤ k → superclasses k store c ≡ superclasses (length store) store c
   enough_superclasses k c is h = superclasses_same k (length store) c [] (none_passed c) is (omega arith) (omega arith)
 
+  -- What is no class has nothing above it, so the same holds of each number.
+
+  alone : (kind : Kind) → is_class_or_module kind ≡ false → class_in kind ≡ no_class
+  alone (string f) h = refl
+  alone (elements vs) h = refl
+  alone (table ps d) h = refl
+  alone (span a b e) h = refl
+  alone (closed k) h = refl
+  alone (plain c) h = refl
+  alone (class_or_module c) h = absurd (false≢true (sym h))
+
+  line_alone : (k c : ℕ) → 0 < k → is_class_or_module (kind_at store c) ≡ false → line_of k store c ≡ c ∷ []
+  line_alone zero c lt h = absurd (not_below_itself 0 lt)
+  line_alone (suc k) c lt h = ap (λ x. c ∷ (all_lines (line_of k store) x.modules ++ line_if (line_of k store) x.superclass)) (alone (kind_at store c) h)
+
+  superclasses_alone : (k c : ℕ) → 0 < k → is_class_or_module (kind_at store c) ≡ false → superclasses k store c ≡ c ∷ []
+  superclasses_alone zero c lt h = absurd (not_below_itself 0 lt)
+  superclasses_alone (suc k) c lt h = ap (λ x. c ∷ line_if (superclasses k store) x.superclass) (alone (kind_at store c) h)
+
+  more_than_none : (k : ℕ) → 0 < length store → length store ≤ k → 0 < k
+  more_than_none k lt h = omega arith
+
+  pub line_is_whole : (k c : ℕ) → 0 < length store → length store ≤ k → line_of k store c ≡ line_of (length store) store c
+  line_is_whole k c lt h = by (is_class_or_module (kind_at store c)) refl
+    where
+      by : (t : Bool) → is_class_or_module (kind_at store c) ≡ t → line_of k store c ≡ line_of (length store) store c
+      by true is = enough_steps k c is h
+      by false other = line_alone k c (more_than_none k lt h) other ∙ sym (line_alone (length store) c lt other)
+
+  pub superclasses_are_whole : (k c : ℕ) → 0 < length store → length store ≤ k → superclasses k store c ≡ superclasses (length store) store c
+  superclasses_are_whole k c lt h = by (is_class_or_module (kind_at store c)) refl
+    where
+      by : (t : Bool) → is_class_or_module (kind_at store c) ≡ t → superclasses k store c ≡ superclasses (length store) store c
+      by true is = enough_superclasses k c is h
+      by false other = superclasses_alone k c (more_than_none k lt h) other ∙ sym (superclasses_alone (length store) c lt other)
+
   -- The ancestors of a class have all that stands above it.
 
   self_in_line : (k c : ℕ) → 0 < k → is_one_of c (line_of k store c) ≡ true
@@ -307,7 +343,7 @@ graph_module store n m g is other free = graph_edge store (with_module store n m
 
 -- Objects behind the others.
 
-kind_behind : (store : Objects) (o : Object) (c : ℕ) → (kind_at (store ++ o ∷ []) c ≡ kind_at store c) ⊎ ((c ≡ length store) × (kind_at (store ++ o ∷ []) c ≡ o.kind))
+pub kind_behind : (store : Objects) (o : Object) (c : ℕ) → (kind_at (store ++ o ∷ []) c ≡ kind_at store c) ⊎ ((c ≡ length store) × (kind_at (store ++ o ∷ []) c ≡ o.kind))
 kind_behind [] o zero = inr (refl, refl)
 kind_behind [] o (suc c) = inl refl
 kind_behind (d ∷ store) o zero = inl refl

@@ -8,6 +8,13 @@ pub mod Leading
 pub mod ClassGraph
 pub mod NativeStores
 pub mod StoreLeading
+pub mod StoredStores
+pub mod StoredSteps
+pub mod StoredCalls
+pub mod StoredLoads
+pub mod StoredParts
+pub mod StoredTrees
+pub mod StoredFrames
 pub mod Relation
 pub mod Catching
 pub mod Changes
@@ -22,9 +29,11 @@ pub mod EvaluatedLoops
 pub mod Longer
 pub mod Start
 pub mod Ends
+pub mod StoredPrograms
 pub mod Constructs
 pub mod MoreTurns
 pub mod Plans
 pub mod WordRows
 pub mod OneAnswer
+pub mod PlacedFiles
 pub mod TreesOfAnswers

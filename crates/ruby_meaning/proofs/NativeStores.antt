@@ -7,7 +7,7 @@ use Rattle.ruby_meaning.specs.Natives.Sorting.{in_order, by_themselves}
 use Rattle.std.specs.Prelude.{⊤, map, not, nat_lt, nat_le}
 use Rattle.std.proofs.lemmas.Option.{same_Some, none-some}
 use Rattle.ruby_tree.specs.Names.{Bytes}
-use Rattle.ruby_meaning.specs.Value.{Value, nil, yes, no, number, symbol_named, object, MethodRow, Class, Kind, string, elements, table, span, closed, plain, class_or_module, Object, Objects}
+use Rattle.ruby_meaning.specs.Value.{Value, nil, yes, no, number, symbol_named, object, MethodBody, written, native, reader, writer, MethodRow, Class, Kind, string, elements, table, span, closed, plain, class_or_module, Object, Objects}
 use Rattle.ruby_meaning.specs.Store.{new_object, new_string, kind_at, with_kind, frozen_now, is_frozen_at, is_one_of, ancestors, is_class_or_module, with_method}
 use Rattle.ruby_meaning.specs.NativeName.{Native, object_equal, object_not, object_class, object_is_a, object_is_nil, object_responds, object_to_text, object_inspect, object_freeze, object_is_frozen, object_copy, object_new_table, nil_to_text, nil_inspect, nil_to_array, nil_to_integer, bool_to_text, bool_inspect, integer_add, integer_subtract, integer_multiply, integer_divide, integer_modulo, integer_power, integer_and, integer_or, integer_xor, integer_shift_left, integer_shift_right, integer_minus, integer_plus, integer_complement, integer_less, integer_at_most, integer_more, integer_at_least, integer_compare, integer_to_text, integer_inspect, integer_to_integer, integer_absolute, integer_is_even, integer_is_odd, integer_is_zero, integer_successor, string_add, string_repeat, string_equal, string_compare, string_less, string_at_most, string_more, string_at_least, string_index, string_size, string_byte_size, string_is_empty, string_upcase, string_downcase, string_capitalize, string_strip, string_chomp, string_starts_with, string_ends_with, string_includes, string_place_of, string_replace_first, string_replace_all, string_split, string_characters, string_lines, string_left_justify, string_right_justify, string_to_integer, string_to_text, string_to_symbol, string_inspect, string_append, symbol_to_text, symbol_to_symbol, symbol_size, symbol_inspect, array_size, array_is_empty, array_index, array_set_index, array_append, array_push, array_unshift, array_pop, array_shift, array_concat, array_add, array_subtract, array_unique, array_delete, array_delete_at, array_clear, array_reverse, array_first, array_last, array_sort, array_join, array_sort_pairs, hash_index, hash_set_index, hash_has_key, hash_delete, hash_keys, hash_values, hash_size, hash_is_empty, hash_merge, hash_clear, range_first, range_last, range_excludes_end, module_name, module_case_equal, module_superclass, module_include, module_attribute_reader, module_attribute_writer, module_attribute_accessor, class_allocate, control}
 use Rattle.ruby_meaning.specs.Natives.{meaning_of}
@@ -24,6 +24,29 @@ use Rattle.ruby_meaning.specs.Natives.Whole as whole
 use Rattle.ruby_meaning.specs.Natives.Letters as letters
 use Rattle.ruby_meaning.specs.Natives.OfModule as module_natives
 
+-- an attribute's reader or writer, as natives make rows
+abbrev pub is_attribute : MethodBody → Bool
+is_attribute (written code) = false
+is_attribute (native n) = false
+is_attribute (reader x) = true
+is_attribute (writer x) = true
+
+abbrev pub AreAttributes : List MethodRow → Type 0
+AreAttributes [] = ⊤
+AreAttributes (r ∷ rows) = (is_attribute r.body ≡ true) × AreAttributes rows
+
+readers_are : (xs : List Bytes) → AreAttributes (module_natives.reader_rows xs)
+readers_are [] = tt
+readers_are (x ∷ xs) = (refl, readers_are xs)
+
+writers_are : (xs : List Bytes) → AreAttributes (module_natives.writer_rows xs)
+writers_are [] = tt
+writers_are (x ∷ xs) = (refl, writers_are xs)
+
+accessors_are : (xs : List Bytes) → AreAttributes (module_natives.accessor_rows xs)
+accessors_are [] = tt
+accessors_are (x ∷ xs) = (refl, (refl, accessors_are xs))
+
 -- The changes that natives make of a store.
 pub record KeepsStores (K : Objects → Objects → Type 0) : Type 0 where
   pub same : (store : Objects) → K store store
@@ -32,7 +55,7 @@ pub record KeepsStores (K : Objects → Objects → Type 0) : Type 0 where
   pub with_elements : (store : Objects) (n : ℕ) (old new : List Value) → kind_at store n ≡ elements old → K store (with_kind store n (elements new))
   pub with_table : (store : Objects) (n : ℕ) (old new : List (Value × Value)) (d : Value) → kind_at store n ≡ table old d → K store (with_kind store n (table new d))
   pub frozen : (store : Objects) (n : ℕ) → K store (frozen_now store n)
-  pub with_row : (store : Objects) (n : ℕ) (r : MethodRow) → is_class_or_module (kind_at store n) ≡ true → K store (with_method store n r)
+  pub with_row : (store : Objects) (n : ℕ) (r : MethodRow) → is_attribute r.body ≡ true → is_class_or_module (kind_at store n) ≡ true → K store (with_method store n r)
   pub with_module : (store : Objects) (n m : ℕ) → is_class_or_module (kind_at store n) ≡ true → is_class_or_module (kind_at store m) ≡ true → is_one_of n (ancestors store m) ≡ false → K store (with_module store n m)
   -- a class stays one
   pub classes : (store next : Objects) (n : ℕ) → K store next → is_class_or_module (kind_at store n) ≡ true → is_class_or_module (kind_at next n) ≡ true
@@ -161,11 +184,11 @@ module _ (K : Objects → Objects → Type 0) (keeps : KeepsStores K) where
   want_pairs store (v ∷ vs) go h = want _ store v (as_array store v) _ (λ a e. want_pairs store vs (λ ps. go (array.pair_of a.1 ∷ ps)) (λ ps. h (array.pair_of a.1 ∷ ps)))
 
   -- rows of one class
-  rows : (store : Objects) (n : ℕ) (rs : List MethodRow) → is_class_or_module (kind_at store n) ≡ true → K store (with_rows store n rs)
-  rows store n [] h = keeps.same store
-  rows store n (r ∷ rs) h =
-      let first : K store (with_method store n r) = keeps.with_row store n r h in
-      keeps.then_on store (with_method store n r) (with_rows (with_method store n r) n rs) first (rows (with_method store n r) n rs (keeps.classes store (with_method store n r) n first h))
+  rows : (store : Objects) (n : ℕ) (rs : List MethodRow) → AreAttributes rs → is_class_or_module (kind_at store n) ≡ true → K store (with_rows store n rs)
+  rows store n [] are h = keeps.same store
+  rows store n (r ∷ rs) are h =
+      let first : K store (with_method store n r) = keeps.with_row store n r are.0 h in
+      keeps.then_on store (with_method store n r) (with_rows (with_method store n r) n rs) first (rows (with_method store n r) n rs are.1 (keeps.classes store (with_method store n r) n first h))
 
   -- Shapes of natives.
 
@@ -455,8 +478,8 @@ module _ (K : Objects → Objects → Type 0) (keeps : KeepsStores K) where
   native_keeps module_case_equal store v vs = got store (as_class store v) _ (λ a e. one store vs _ (λ w. keeps.same store))
   native_keeps module_superclass store v vs = got store (as_class store v) _ (λ a e. keeps.same store)
   native_keeps module_include store v vs = got store (as_class store v) _ (λ a e. one store vs _ (λ w. want _ store w (as_module store w) _ (λ m i. include_fine store a.0 m (is_one_of a.0 (ancestors store m)) refl (class_kind store v a e) (module_kind store w m i))))
-  native_keeps module_attribute_reader store v vs = got store (as_class store v) _ (λ a e. want_symbols store vs _ (λ xs. rows store a.0 (module_natives.reader_rows xs) (class_kind store v a e)))
-  native_keeps module_attribute_writer store v vs = got store (as_class store v) _ (λ a e. want_symbols store vs _ (λ xs. rows store a.0 (module_natives.writer_rows xs) (class_kind store v a e)))
-  native_keeps module_attribute_accessor store v vs = got store (as_class store v) _ (λ a e. want_symbols store vs _ (λ xs. rows store a.0 (module_natives.accessor_rows xs) (class_kind store v a e)))
+  native_keeps module_attribute_reader store v vs = got store (as_class store v) _ (λ a e. want_symbols store vs _ (λ xs. rows store a.0 (module_natives.reader_rows xs) (readers_are xs) (class_kind store v a e)))
+  native_keeps module_attribute_writer store v vs = got store (as_class store v) _ (λ a e. want_symbols store vs _ (λ xs. rows store a.0 (module_natives.writer_rows xs) (writers_are xs) (class_kind store v a e)))
+  native_keeps module_attribute_accessor store v vs = got store (as_class store v) _ (λ a e. want_symbols store vs _ (λ xs. rows store a.0 (module_natives.accessor_rows xs) (accessors_are xs) (class_kind store v a e)))
   native_keeps class_allocate store v vs = got store (as_class store v) _ (λ a e. allocate_fine store a.0 (is_one_of a.0 closed_classes))
   native_keeps (control c) store v vs = keeps.same store

@@ -45,7 +45,7 @@ data_is : (reader : DataReader) (kind : DataKind) (contents : Option Bytes) → 
 data_is reader kind None = no_data
 data_is reader kind (Some f) = has_data refl
 
-files_are : (reader : DataReader) (source : SourceTree) → AreFilesOf (reads_by reader) source (files_of reader source)
+pub files_are : (reader : DataReader) (source : SourceTree) → AreFilesOf (reads_by reader) source (files_of reader source)
 files_are reader source = record {
   found = λ path. refl;
   ruby = λ path. ruby_is (bytes_at source path);
@@ -54,7 +54,7 @@ files_are reader source = record {
 
 -- The prelude.
 
-is_prelude : IsPrelude prelude_tree
+pub is_prelude : IsPrelude prelude_tree
 is_prelude = is_read (reading_is prelude_text (tree prelude_tree) prelude_is_read)
 
 prelude_one : {t : Tree} → IsPrelude t → t ≡ prelude_tree

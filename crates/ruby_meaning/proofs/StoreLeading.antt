@@ -13,7 +13,7 @@ use Rattle.ruby_meaning.proofs.NativeStores.{KeepsStores}
 pub store_same : (store : Objects) → StoreLeads store store
 store_same store = record { longer = omega arith; classes = λ n h. refl; graph = λ g. g }
 
-less_on : (a b c : ℕ) → a < b → b ≤ c → a < c
+pub less_on : (a b c : ℕ) → a < b → b ≤ c → a < c
 less_on a b c h k = omega arith
 
 at_most_on : (a b c : ℕ) → a ≤ b → b ≤ c → a ≤ c
@@ -81,7 +81,7 @@ length_frozen [] n = refl
 length_frozen (o ∷ store) zero = refl
 length_frozen (o ∷ store) (suc n) = ap suc (length_frozen store n)
 
-kind_frozen : (store : Objects) (n c : ℕ) → kind_at (frozen_now store n) c ≡ kind_at store c
+pub kind_frozen : (store : Objects) (n c : ℕ) → kind_at (frozen_now store n) c ≡ kind_at store c
 kind_frozen [] n c = refl
 kind_frozen (o ∷ store) zero zero = refl
 kind_frozen (o ∷ store) zero (suc c) = refl
@@ -96,7 +96,7 @@ length_variables [] n vs = refl
 length_variables (o ∷ store) zero vs = refl
 length_variables (o ∷ store) (suc n) vs = ap suc (length_variables store n vs)
 
-kind_variables : (store : Objects) (n : ℕ) (vs : List (Bytes × Value)) (c : ℕ) → kind_at (with_variables store n vs) c ≡ kind_at store c
+pub kind_variables : (store : Objects) (n : ℕ) (vs : List (Bytes × Value)) (c : ℕ) → kind_at (with_variables store n vs) c ≡ kind_at store c
 kind_variables [] n vs c = refl
 kind_variables (o ∷ store) zero vs zero = refl
 kind_variables (o ∷ store) zero vs (suc c) = refl
@@ -111,7 +111,7 @@ length_thrown p n [] = refl
 length_thrown p zero (o ∷ store) = refl
 length_thrown p (suc n) (o ∷ store) = ap suc (length_thrown p n store)
 
-kind_thrown : (p : Option (Bytes × ℕ)) (n : ℕ) (store : Objects) (c : ℕ) → kind_at (thrown_object p n store) c ≡ kind_at store c
+pub kind_thrown : (p : Option (Bytes × ℕ)) (n : ℕ) (store : Objects) (c : ℕ) → kind_at (thrown_object p n store) c ≡ kind_at store c
 kind_thrown p n [] c = refl
 kind_thrown p zero (o ∷ store) zero = refl
 kind_thrown p zero (o ∷ store) (suc c) = refl
@@ -138,7 +138,7 @@ store_made store o other = store_behind store o (none_above store o.kind other)
 
 -- What natives do.
 
-stays_class : (store next : Objects) (n : ℕ) → StoreLeads store next → is_class_or_module (kind_at store n) ≡ true → is_class_or_module (kind_at next n) ≡ true
+pub stays_class : (store next : Objects) (n : ℕ) → StoreLeads store next → is_class_or_module (kind_at store n) ≡ true → is_class_or_module (kind_at next n) ≡ true
 stays_class store next n l h = l.classes n (class_below store n h) ∙ h
 
 pub natives_lead : KeepsStores StoreLeads
@@ -149,7 +149,7 @@ natives_lead = record {
   with_elements = λ store n old new e. store_with_kind store n (elements new) (sym (ap is_class_or_module e)) (λ p h. absurd (false≢true h));
   with_table = λ store n old new d e. store_with_kind store n (table new d) (sym (ap is_class_or_module e)) (λ p h. absurd (false≢true h));
   frozen = store_frozen;
-  with_row = store_with_method;
+  with_row = λ store n r attribute is. store_with_method store n r is;
   with_module = store_with_module;
   classes = stays_class;
 }

@@ -1,5 +1,6 @@
 -- Small facts on truth values.
-use Rattle.std.proofs.Common.{◌≡◌, Bool, true, false, ◌||◌, refl}
+use Rattle.std.proofs.Common.{◌≡◌, Bool, true, false, ◌||◌, refl, sym}
+use Rattle.std.specs.Prelude.{not}
 
 pub false_true : {X : Type 0} → false ≡ true → X
 false_true h = cc
@@ -16,3 +17,8 @@ or_right false b h = h
 pub or_second : (a b : Bool) → a ≡ false → (a || b) ≡ true → b ≡ true
 or_second true b s h = cc
 or_second false b s h = h
+
+-- what does not fail holds
+pub holds : (b : Bool) → not b ≡ false → b ≡ true
+holds true h = refl
+holds false h = false_true (sym h)

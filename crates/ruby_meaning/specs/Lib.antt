@@ -35,4 +35,5 @@ pub mod WordRows
 pub mod Laws
 pub mod RunLaws
 pub mod ClassGraph
+pub mod Stored
 pub mod Constructs

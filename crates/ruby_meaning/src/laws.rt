@@ -1,14 +1,21 @@
 //! What holds of every run, over the definitions alone.
-ghost use Rattle.std.specs.Prelude.{◌≡◌, ℕ, ◌+◌, ◌≤◌, ◌<◌, Bool, false, [], length};
-ghost use Rattle.ruby_tree.specs.Tree.{SourcePosition, Tree, at, while_loop, rescue, Other};
-ghost use Rattle.ruby_meaning.specs.Value.{Value};
-ghost use Rattle.ruby_meaning.specs.Store.{cell_limit};
-ghost use Rattle.ruby_meaning.specs.World.{World, Frame, Spent, Run, world_of};
+ghost use Rattle.std.specs.Prelude.{◌≡◌, ℕ, ◌+◌, ◌≤◌, ◌<◌, Bool, true, false, ◌||◌, List, [], map, length, is_some};
+ghost use Rattle.bs_outside.specs.SourceTree.{SourceTree, bytes_at};
+ghost use Rattle.ruby_tree.specs.Names.{Bytes};
+ghost use Rattle.ruby_tree.specs.Tree.{SourcePosition, Tree, at, super, bare_super, return_with, break_with, while_loop, rescue, Trees, Other};
+ghost use Rattle.ruby_tree.specs.Placement.{Around, at_home, file};
+ghost use Rattle.ruby_meaning.specs.Value.{Value, Objects};
+ghost use Rattle.ruby_meaning.specs.Store.{cell_limit, each_once, line_of, superclasses, rows_of, find_in};
+ghost use Rattle.ruby_meaning.specs.World.{in_class, World, Frame, Spent, Run, world_of};
 ghost use Rattle.ruby_meaning.specs.Files.{Files};
 ghost use Rattle.ruby_meaning.specs.Parts.{in_loop_of, handling};
 ghost use Rattle.ruby_meaning.specs.Evaluation.{run, eval, evaluate, loop, rescuing};
 ghost use Rattle.ruby_meaning.specs.Constructs.{ReadsAsTable, body_of};
-ghost use Rattle.ruby_meaning.specs.PlainRun.{Program, program_run, start_world, plain_run};
+ghost use Rattle.ruby_meaning.specs.PlainRun.{Program, IsPrelude, prelude_of_text, program_run, start_world, plain_run};
+ghost use Rattle.ruby_meaning.specs.FilesOf.{DataReader, IsRubyFile, files_of};
+ghost use Rattle.ruby_meaning.specs.ClassGraph.{IsGraph};
+ghost use Rattle.reference_laws.specs.Placed.{IsPlaced};
+ghost use Rattle.ruby_meaning.specs.Stored.{IsStored, FrameFits, PlacedOut, StaysStored, ArePlaced, EndsAsProgram};
 ghost use Rattle.ruby_meaning.specs.RunLaws.{GainsNone, loop_turn, rescue_turn, last_of, Allowed, EndsOutside};
 ghost use Rattle.ruby_meaning.specs.Laws.{Grows, IsSound, EnvironmentsStay, ClosuresStay, given, given_out, IsOver, given_program, HasEnded};
 
@@ -89,4 +96,42 @@ pub fn runs_end_as_they_may()
     ensures allowed { (files : Files) (t : Tree) (frame : Frame) (w : World) → Allowed frame (evaluate files t frame w) }
     ensures spent { (files : Files) (t : Tree) (frame : Frame) (w z : World) → evaluate files t frame w ≡ Spent z → z.turns ≡ 0 }
     ensures program { (files : Files) (prelude : Tree) (p : Program) → EndsOutside (program_run files prelude p (start_world p)) }
+{}
+
+/// A `next` comes only out of a loop's body or a block, and a `retry` only out of a rescue clause:
+/// so the placement of its tree lets them. What the files of a source tree and the prelude are read
+/// as is placed, so a plain run ends with a value, an exception, no turn left or a full store.
+pub fn outcomes_are_placed()
+    // One step, whatever its bodies do where a tree is not placed or a frame does not fit.
+    ensures step { (files : Files) → ArePlaced files → (fuel : ℕ) (b : Tree → Frame → Run) → StaysStored b → StaysStored (run files fuel b) }
+    ensures evaluated { (files : Files) → ArePlaced files → (c : Around) (t : Tree) (frame : Frame) (w : World) → IsPlaced c t → FrameFits c frame w.objects → IsStored w → PlacedOut c (evaluate files t frame w) }
+    ensures program { (files : Files) (prelude : Tree) (p : Program) → ArePlaced files → IsPlaced (at_home file) prelude → EndsAsProgram (program_run files prelude p (start_world p)) }
+    ensures read { (source : SourceTree) (files : Files) → ((path : Bytes) → IsRubyFile (bytes_at source path) (files.ruby path)) → ArePlaced files }
+    ensures prelude { (t : Tree) → IsPrelude t → IsPlaced (at_home file) t }
+    ensures plain { (reader : DataReader) (source : SourceTree) (p : Program) → EndsAsProgram (program_run (files_of reader source) prelude_of_text p (start_world p)) }
+{}
+
+/// In a frame that fits, a placed `super` has a method that runs, a placed `return` a method or a
+/// file to leave, and a placed `break` a loop or a block. A run of placed trees makes only frames
+/// that fit, so what stands for these elsewhere is never reached.
+pub fn odd_endings_are_not_reached()
+    ensures super_in_a_method { (c : Around) (frame : Frame) (store : Objects) (o : SourcePosition) → FrameFits c frame store → (ts : Trees) (ks : List ℕ) (v b : Other) → IsPlaced c (at o (super ts ks v b)) → is_some frame.method ≡ true }
+    ensures bare_super_in_a_method { (c : Around) (frame : Frame) (store : Objects) (o : SourcePosition) → FrameFits c frame store → (b : Other) → IsPlaced c (at o (bare_super b)) → is_some frame.method ≡ true }
+    ensures return_in_no_class { (c : Around) (frame : Frame) (store : Objects) (o : SourcePosition) → FrameFits c frame store → (ts : Trees) → IsPlaced c (at o (return_with ts)) → frame.home ≡ in_class → ⊥ }
+    ensures break_in_a_loop_or_block { (c : Around) (frame : Frame) (store : Objects) (o : SourcePosition) → FrameFits c frame store → (ts : Trees) → IsPlaced c (at o (break_with ts)) → (frame.in_loop || is_some frame.in_block) ≡ true }
+{}
+
+/// The classes are a graph without a way back in the world of the start and in each that a run of
+/// placed trees reaches, so in that in which a plain run ends: what a class includes, its superclass
+/// and the class bodies around each method and block are classes. As many steps as the store has
+/// objects are enough for each way upward, and a search over each ancestor once finds what one over
+/// the whole way does.
+pub fn classes_have_no_cycle()
+    ensures start { (p : Program) → IsStored (start_world p) }
+    ensures reached { (files : Files) → ArePlaced files → (c : Around) (t : Tree) (frame : Frame) (w : World) → IsPlaced c t → FrameFits c frame w.objects → IsStored w → IsStored (world_of (evaluate files t frame w)) }
+    ensures program { (files : Files) (prelude : Tree) (p : Program) → ArePlaced files → IsPlaced (at_home file) prelude → IsStored (world_of (program_run files prelude p (start_world p))) }
+    ensures plain { (reader : DataReader) (source : SourceTree) (p : Program) → IsStored (world_of (program_run (files_of reader source) prelude_of_text p (start_world p))) }
+    ensures steps { (store : Objects) → IsGraph store → (k c : ℕ) → 0 < length store → length store ≤ k → line_of k store c ≡ line_of (length store) store c }
+    ensures superclass_steps { (store : Objects) → IsGraph store → (k c : ℕ) → 0 < length store → length store ≤ k → superclasses k store c ≡ superclasses (length store) store c }
+    ensures searched_once { (store : Objects) (x : Bytes) (numbers : List ℕ) → find_in store x (map rows_of (each_once numbers)) ≡ find_in store x (map rows_of numbers) }
 {}

@@ -1,22 +1,17 @@
 -- The sequences of a text's tree begin at places of their own, within the text.
-use Rattle.std.proofs.Common.{◌≡◌, ℕ, zero, suc, ◌≤◌, ◌<◌, Bool, true, false, cond, nat_eq, List, [], ◌∷◌, length, ◌⊎◌, inl, inr, refl, ap, arith}
+use Rattle.std.proofs.Common.{true, ◌≡◌, ℕ, zero, suc, ◌≤◌, ◌<◌, false, nat_eq, List, [], ◌∷◌, length, ◌⊎◌, inl, inr, refl, ap, arith}
 use Rattle.std.specs.List.{IsDistinct, AllByRecursion}
+use Rattle.std.specs.Prelude.{◌^◌}
 use Rattle.std.proofs.lemmas.Bool.{eq-eqb}
+use Rattle.std.proofs.lemmas.List.{length-take}
 use Rattle.ruby_lexer.specs.Bytes.{Bytes}
-use Rattle.ruby_lexer.specs.Tokens.{before_end}
+use Rattle.ruby_lexer.specs.Tokens.{end_length, before_end}
 use Rattle.ruby_tree.specs.Tree.{Tree}
 use Rattle.ruby_tree.specs.Reading.{Reads}
 use Rattle.ruby_meaning.specs.Sequences.{places}
-use Rattle.tree_laws.proofs.Spots.{one_at, count, spots}
+use Rattle.tree_laws.proofs.Spots.{one_if, one_at, zero_false, count, spots}
 use Rattle.tree_laws.proofs.FillStatements.{filling}
 use Rattle.tree_laws.proofs.SpotsOfTexts.{Sole, tokens_sole}
-
-abbrev one_if : Bool → ℕ
-one_if b = cond b 1 0
-
-zero_false : (b : Bool) → one_if b ≡ 0 → b ≡ false
-zero_false true e = absurd (omega (arith, e))
-zero_false false e = refl
 
 itself : (x : ℕ) → one_at x x ≡ 1
 itself x = ap one_if (eq-eqb x x refl)
@@ -51,12 +46,12 @@ once_of : (p n to : ℕ) → Sole p n 0 to → n ≤ 1
 once_of p n to (inl h) = omega (arith, h)
 once_of p n to (inr h) = omega (arith, h.0)
 
-none_of : (p n to : ℕ) → to ≤ p → Sole p n 0 to → n ≡ 0
+pub none_of : (p n to : ℕ) → to ≤ p → Sole p n 0 to → n ≡ 0
 none_of p n to less (inl h) = h
 none_of p n to less (inr h) = absurd (omega (arith, less, h.1.1))
 
 module _ (source : Bytes) (t : Tree) (R : Reads source t) where
-  counted : (p : ℕ) → count p (places t) ≤ spots p R.tokens
+  pub counted : (p : ℕ) → count p (places t) ≤ spots p R.tokens
   counted p =
       let a = (filling p (before_end source) R.derived.depth).stmts {most = spots p R.tokens} {l = 0} R.derived.derived (record { holds = omega arith }) in
       omega (arith, a.part.holds, a.rest.holds)
@@ -66,3 +61,14 @@ module _ (source : Bytes) (t : Tree) (R : Reads source t) where
 
   pub places_below : AllByRecursion (λ p. p < length (before_end source)) (places t)
   places_below = below (length (before_end source)) (places t) (λ p less. omega (arith, counted p, none_of p (spots p R.tokens) _ less (tokens_sole p source R.tokens R.are_tokens)))
+
+  -- a text is short
+  short : length (before_end source) ≤ 4194304
+  unfolding before_end
+  short = omega (arith, length-take (end_length true source) source, R.are_tokens.is_text.short)
+
+  pub beyond : (p : ℕ) → 2 ^ 64 ≤ p → length (before_end source) ≤ p
+  beyond p h = omega (arith, short)
+
+  pub places_small : AllByRecursion (λ p. p < 2 ^ 64) (places t)
+  places_small = below (2 ^ 64) (places t) (λ p less. omega (arith, counted p, none_of p (spots p R.tokens) _ (beyond p less) (tokens_sole p source R.tokens R.are_tokens)))

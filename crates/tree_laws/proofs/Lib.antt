@@ -3,3 +3,9 @@ pub mod FillParts
 pub mod FillStatements
 pub mod SpotsOfTexts
 pub mod Apart
+pub mod Known
+pub mod Gathering
+pub mod Housing
+pub mod HousedParts
+pub mod HousedStatements
+pub mod LocalsHeld

@@ -1,8 +1,15 @@
 -- How often a place begins a token, and how often a sequence: what is known of the parts of a tree is known of the tree.
-use Rattle.std.proofs.Common.{◌≡◌, ℕ, ◌+◌, ◌≤◌, cond, nat_eq, List, [], ◌∷◌, ◌++◌, ap, arith, Option, Some, None}
+use Rattle.std.proofs.Common.{◌≡◌, ℕ, ◌+◌, ◌≤◌, Bool, true, false, cond, nat_eq, List, [], ◌∷◌, ◌++◌, refl, ap, arith, Option, Some, None}
 use Rattle.ruby_lexer.specs.Pieces.{Kind, Parts, Tok, tok, Toks}
 use Rattle.ruby_lexer.specs.Pieces as token
 use Rattle.ruby_tree.specs.Rules.{next, front, place_at}
+
+abbrev pub one_if : Bool → ℕ
+one_if b = cond b 1 0
+
+pub zero_false : (b : Bool) → one_if b ≡ 0 → b ≡ false
+zero_false true e = absurd (omega (arith, e))
+zero_false false e = refl
 
 -- 1 for the place itself
 abbrev pub one_at : ℕ → ℕ → ℕ
