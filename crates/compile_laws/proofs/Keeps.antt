@@ -23,7 +23,7 @@ use Rattle.ruby_meaning.proofs.Fixed.{evaluates, evaluation_is_fixed, evaluated}
 use Rattle.code_meaning.specs.Slots.{HaveNames, HasScopes}
 use Rattle.code_meaning.proofs.Slots.{slot_read, slot_set}
 use Rattle.compile_laws.proofs.Ready.{Ready, KeepsReady}
-use Rattle.compile_laws.proofs.DoesParts.{Known}
+use Rattle.compile_laws.proofs.Does.{Known}
 
 -- Environments that stay.
 
