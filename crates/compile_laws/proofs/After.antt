@@ -1,5 +1,5 @@
 -- What is to be shown behind a part of the code, and how the parts of a run are put together.
-use Rattle.std.proofs.Common.{◌≡◌, ℕ, zero, suc, ◌+◌, ◌-◌, ◌≤◌, ◌<◌, sym, subst, ap, ◌∙◌, arith, List, ◌∷◌, ◌++◌, length, drop, Some, append_assoc, length-append}
+use Rattle.std.proofs.Common.{◌≡◌, ℕ, zero, suc, ◌-◌, ◌≤◌, ◌<◌, sym, subst, ap, ◌∙◌, arith, List, ◌∷◌, ◌++◌, length, drop, Some, append_assoc, length-append}
 use Rattle.std.specs.Prelude.{slice_get}
 use Rattle.std.proofs.Math.Seq.{drop-append_seam}
 use Rattle.std.proofs.lemmas.Bool.{lt-ltb, le-ltb}

@@ -1,32 +1,32 @@
 -- What a call does is the same in frames that are alike.
-use Rattle.std.proofs.Common.{◌≡◌, ℕ, zero, suc, ◌+◌, Bool, true, false, refl, sym, ap, ◌∙◌, List, [], ◌∷◌, ◌++◌, length, Option, Some, None}
+use Rattle.std.proofs.Common.{◌≡◌, ℕ, zero, suc, ◌+◌, Bool, true, false, refl, ap, ◌∙◌, List, [], ◌∷◌, ◌++◌, length, Option, Some, None}
 use Rattle.std.specs.Prelude.{nat_lt, slice_get, codes}
 use Rattle.msgpack_codec.specs.declared.value.DataKind.{DataKind}
 use Rattle.msgpack_codec.specs.declared.value.DataKind.TheVariants as data_kind
 use Rattle.ruby_tree.specs.Names.{Bytes}
 use Rattle.ruby_tree.specs.Tree.{Tree, Goal, to_local, to_instance, to_global, to_constant}
 use Rattle.bs_outside.specs.Paths.{normal_of, parent_of}
-use Rattle.ruby_meaning.specs.NativeName.{Native, Control, control_require, control_require_relative, control_load, control_gets, control_block_given, control_emit, control_throw, control_call, control_load_yaml, control_load_json}
+use Rattle.ruby_meaning.specs.NativeName.{Control, control_require, control_require_relative, control_load, control_gets, control_block_given, control_emit, control_throw, control_call, control_load_yaml, control_load_json}
 use Rattle.ruby_meaning.specs.NativeAnswer.{NativeAnswer, itself, by_control, native_answer}
-use Rattle.ruby_meaning.specs.Value.{Value, nil, yes, number, object, Code, MethodBody, written, native, reader, writer}
+use Rattle.ruby_meaning.specs.Value.{Value, yes, number, object, Code, MethodBody, written, native, reader, writer}
 use Rattle.ruby_meaning.specs.Native.{Answer, gives, raises, Count}
 use Rattle.ruby_meaning.specs.Numbers.{object_class, system_stack_error, argument_error, type_error, name_error, frozen_error, local_jump_error, runtime_error, syntax_error, load_error, features, exception, closed_classes}
-use Rattle.ruby_meaning.specs.Store.{environment_cells, method_cells, string_cells, object_cells, variable_cells, new_string, truth_value, is_a, find_method, is_frozen_at, name_of_class_of, class_name, class_at, Place, Found, is_one_of}
+use Rattle.ruby_meaning.specs.Store.{environment_cells, string_cells, object_cells, variable_cells, new_string, truth_value, is_a, find_method, is_frozen_at, name_of_class_of, class_name, class_at, Place, Found, is_one_of}
 use Rattle.ruby_meaning.specs.Natives.{control_count}
 use Rattle.ruby_meaning.specs.Natives.Messages.{no_change, no_conversion}
 use Rattle.ruby_meaning.specs.Natives.Reading.{called}
 use Rattle.ruby_meaning.specs.Locals.{place_of, params_of, locals_of}
-use Rattle.ruby_meaning.specs.World.{Home, in_file, in_method, in_class, ruby_file, data_file, Given, no_block, literal_block, given_proc, Running, Closure, loaded, Ask, ask_require, ask_relative, ask_load, asked, World, Frame, Done, Raise, Break, to_call, Return, Run, frame_limit, text_of, path_of, loaded_of}
+use Rattle.ruby_meaning.specs.World.{Home, in_file, in_method, in_class, ruby_file, data_file, Given, no_block, literal_block, given_proc, Running, Closure, loaded, Ask, ask_require, ask_relative, ask_load, asked, Frame, Done, Raise, Break, to_call, Return, Run, frame_limit, text_of, path_of, loaded_of}
 use Rattle.ruby_meaning.specs.Steps.{then, reading, changing, choose, pay, charge, make, make_string, raise_new, exception_of, line_in, stand_in, stand, deeper_if, deeper, returned, gone_on}
 use Rattle.ruby_meaning.specs.Calls.{call_fault, call_fault_class, wrong_count, enter, count_of_params, fits, counted, with_locals, optional_given, method_frame, block_frame, block_arguments, answered, set_in, set_variable, settable, variable_of, no_method, with_step, with_entry, all_nil, with_environment, next_environment}
 use Rattle.ruby_meaning.specs.Blocks.{run_method, run_closure, run_block, run_given}
 use Rattle.ruby_meaning.specs.Files.{Files, RubyFile, no_ruby, ruby_fault, ruby_tree, DataFile, no_data_file, data_fault, data_value}
 use Rattle.ruby_meaning.specs.Search.{missing_name, slash, resolve, Resolved, provided, found_at, missing}
 use Rattle.ruby_meaning.specs.Loads.{no_such_file, cannot_load, fault_at, file_code, file_frame, next_load, data_loaded, with_feature, push_feature, while_loading, load_data, run_code, ruby_loaded, load_ruby, after_load, resolved, ask_for}
-use Rattle.ruby_meaning.specs.Invoke.{is_given, first_of, second_of, written_out, with_text_found, with_text, thrown, throw_if, throw_value, closure_of, call_closure, load_named, run_control, run_answer, run_native, run_found, run_if_found, call_method}
-use Rattle.ruby_meaning.specs.Definitions.{set_local, set_global_if, fixed_global, set_constant, set_goal, with_class_row, code_of, define_on, define_method, class_number, constant_found, behind_class, path_from, path_around}
+use Rattle.ruby_meaning.specs.Invoke.{is_given, first_of, with_text_found, with_text, thrown, throw_if, throw_value, closure_of, call_closure, load_named, run_control, run_answer, run_found, run_if_found, call_method}
+use Rattle.ruby_meaning.specs.Definitions.{set_local, set_global_if, fixed_global, set_constant, set_goal, define_on, define_method, class_number, constant_found, behind_class, path_from, path_around}
 use Rattle.ruby_meaning.specs.Constants.{missing_constant, innermost, own_constant, constant_around, constant_behind}
-use Rattle.ruby_meaning.specs.ClassBodies.{class_alone, module_alone, same_class, class_frame, open_class, make_class, not_a, open_found, class_or_new, module_or_new, unless_closed, if_same_superclass, below_base, with_base, class_below, class_named, module_of_name}
+use Rattle.ruby_meaning.specs.ClassBodies.{class_alone, module_alone, same_class, class_frame, open_class, make_class, not_a, open_found, class_or_new, module_or_new, below_base, with_base, class_below, class_named, module_of_name}
 use Rattle.ruby_meaning.specs.Parts.{range_to, make_range, wrong_block, leave_from, leave_home, leave_block, super_found, given_of, given_found, given_value}
 use Rattle.ruby_meaning.specs.Evaluation.{super_with}
 use Rattle.compile_laws.specs.Likeness.{core, Alike, with_flag}

@@ -1,13 +1,12 @@
 -- The code of a tree does what the tree means.
-use Rattle.std.proofs.Common.{zero, ◌≡◌, ℕ, suc, pred, ◌+◌, ◌-◌, ◌≤◌, ◌<◌, ◌⊎◌, inl, inr, Bool, true, false, not, cond, refl, sym, subst, ap, ◌∙◌, arith, List, [], ◌∷◌, ◌++◌, length, Option, Some, None, length-append, append_assoc}
-use Rattle.std.specs.Prelude.{⊤, nat_lt, slice_get, nat_le, codes, map, ◌*◌, pos, nat_eq}
+use Rattle.std.proofs.Common.{zero, ◌≡◌, ℕ, suc, ◌+◌, ◌-◌, ◌≤◌, ◌<◌, ◌⊎◌, inl, inr, Bool, true, false, not, cond, refl, sym, subst, ap, ◌∙◌, arith, List, [], ◌∷◌, ◌++◌, length, Option, Some, None, length-append, append_assoc}
+use Rattle.std.specs.Prelude.{⊤, nat_lt, slice_get, nat_le, codes, map, ◌*◌, pos}
 use Rattle.bs_outside.specs.Paths.{parent_of}
 use Rattle.ruby_tree.specs.Names.{Bytes}
-use Rattle.ruby_tree.specs.Tree.{SourcePosition, Goal, to_local, to_instance, to_global, to_constant, Tree, at, Form, nil_value, true_value, false_value, integer, symbol, text, self_value, file_name, folder_name, line_number, local, instance, global, joined, array, hash, range, constant_path, assign, assign_all, assign_attribute, assign_index, operate_attribute, or_attribute, and_attribute, operate_index, or_index, and_index, send, safe_send, yield, super, bare_super, bare_raise, statements, both, either, negated, if_else, while_loop, case_of, case_tests, return_with, break_with, next_with, retry, rescue, ensure, rescue_sequence, ensure_sequence, method, class, module_named, body, Trees, no_more, more, Other, without, with, Pairs, no_pair, pair, Pieces, no_piece, plain_piece, code_piece, Whens, no_when, when, Rescues, no_clause, clause, Params, no_param, required, optional, rest_param, block_param}
+use Rattle.ruby_tree.specs.Tree.{SourcePosition, Goal, to_local, to_instance, to_global, to_constant, Tree, at, Form, nil_value, true_value, false_value, integer, symbol, text, self_value, file_name, folder_name, line_number, local, instance, global, joined, array, hash, range, constant_path, assign, assign_all, assign_attribute, assign_index, operate_attribute, or_attribute, and_attribute, operate_index, or_index, and_index, send, safe_send, yield, super, bare_super, bare_raise, statements, both, either, negated, if_else, while_loop, case_of, case_tests, return_with, break_with, next_with, retry, rescue, ensure, rescue_sequence, ensure_sequence, method, class, module_named, body, Trees, no_more, more, Other, without, with, Pairs, no_pair, pair, Pieces, no_piece, plain_piece, code_piece, Whens, no_when, when, Rescues, no_clause, clause}
 use Rattle.iseq_types.specs.declared.instructions.Instr.{Instr}
-use Rattle.iseq_types.specs.declared.instructions.Instr.TheVariants.{Pop, Dup, TopN, SetN, AdjustStack, PutNil, PutSelf, PutObject, PutString, GetLocal, SetLocal, GetInstanceVariable, SetInstanceVariable, GetGlobal, SetGlobal, SetConstant, OptGetConstantPath, NewArray, NewHash, NewRange, ConcatStrings, ObjToString, AnyToString, Send, InvokeSuper, InvokeBlock, DefineMethod, DefineClass, CheckMatch, Jump, BranchIf, BranchUnless, BranchNil, Throw, Leave, ExpandArray}
+use Rattle.iseq_types.specs.declared.instructions.Instr.TheVariants.{Pop, Dup, TopN, SetN, AdjustStack, PutNil, PutSelf, PutObject, PutString, GetInstanceVariable, GetGlobal, OptGetConstantPath, NewArray, NewHash, NewRange, ConcatStrings, ObjToString, AnyToString, Send, InvokeSuper, InvokeBlock, DefineMethod, DefineClass, CheckMatch, Jump, BranchIf, BranchUnless, BranchNil, Throw, Leave, ExpandArray}
 use Rattle.iseq_types.specs.declared.instructions.Literal.TheVariants.{True, False, Int, Sym}
-use Rattle.iseq_types.specs.declared.sequences.CatchKind.TheVariants as catches
 use Rattle.iseq_types.specs.declared.sequences.CatchRow.{CatchRow}
 use Rattle.iseq_types.specs.declared.sequences.SeqKind.TheVariants as kinds
 use Rattle.ruby_meaning.specs.Value.{Value, nil, yes, no, number, symbol_named, object, elements, Source, written, class_or_module, Object}
@@ -15,28 +14,28 @@ use Rattle.ruby_meaning.specs.Numbers.{object_class, type_error, frozen_error, n
 use Rattle.ruby_meaning.specs.Natives.Messages.{no_change}
 use Rattle.ruby_meaning.specs.Constants.{innermost, own_constant, name_behind}
 use Rattle.ruby_meaning.specs.Store.{next_number, class_cells, name_cells, environment_cells, is_one_of, class_name, array_cells, method_cells, string_cells, object_cells, variable_cells, cell_limit, new_object, new_string, is_true, is_a, has_name, variables_at, class_at, name_of_class_of}
-use Rattle.ruby_meaning.specs.Locals.{place_of, locals_of, first_line_of, params_of, names_of_params}
+use Rattle.ruby_meaning.specs.Locals.{place_of, locals_of, params_of, names_of_params}
 use Rattle.ruby_meaning.specs.Sequences.{sequence_number}
 use Rattle.ruby_meaning.specs.World.{Given, no_block, literal_block, Running, entered, World, Frame, to_loop, Outcome, Done, Raise, Break, Next, Return, Retry, Spent, Full, Run, world_of, text_of, frame_limit}
 use Rattle.ruby_meaning.specs.Steps.{changing, then_do, then, reading, choose, charge, charged, ended, at_depth, deeper_if, with_object, make, make_string, exception_of, raise_new, line_in, stand_in, stand, broken}
-use Rattle.ruby_meaning.specs.Calls.{all_nil, with_environment, next_environment, enter, enter_load, is_entered, with_step, with_entry, call_fault, call_fault_class, spread, spread_from, variable_of, set_in, settable, first_cost, with_variable, no_method}
+use Rattle.ruby_meaning.specs.Calls.{all_nil, with_environment, next_environment, enter, enter_load, is_entered, with_step, with_entry, call_fault, call_fault_class, spread, spread_from, variable_of, set_in, settable, first_cost, with_variable}
 use Rattle.ruby_meaning.specs.Blocks.{run_given}
 use Rattle.ruby_meaning.specs.Files.{Files}
 use Rattle.ruby_meaning.specs.Invoke.{call_method}
-use Rattle.ruby_meaning.specs.Definitions.{read_local, set_local_in, set_local, holder, read_global, fixed_global, set_goals, set_global_if, with_global, name_cost, with_constant, set_goal, path_from, path_around, closure_here, with_closure, class_number, code_of, with_row, with_class_row, define_on, define_method}
+use Rattle.ruby_meaning.specs.Definitions.{read_local, set_local, read_global, fixed_global, set_goals, set_global_if, with_global, name_cost, with_constant, set_goal, path_from, path_around, closure_here, with_closure, class_number, code_of, with_row, with_class_row, define_on, define_method}
 use Rattle.ruby_meaning.specs.ClassBodies.{class_alone, module_alone, same_class, class_frame, open_class, make_class, refused, open_found, class_or_new, module_or_new, if_same_superclass, below_base, with_base, class_below, class_named, module_of_name}
-use Rattle.ruby_meaning.specs.Levels.{Scopes, Held, GoalHeld, GoalsHeld, NameHeld, is_held, level_of, slot_of}
+use Rattle.ruby_meaning.specs.Levels.{Scopes, GoalHeld, GoalsHeld, NameHeld, is_held, level_of, slot_of}
 use Rattle.ruby_meaning.specs.Parts.{parts_of, piece_found, piece_of, make_joined, make_array, make_hash, make_range, of_values, leave_home, leave_block, leave_loop, given_value, match_found, match_class, handling, in_sequence}
-use Rattle.ruby_meaning.specs.Evaluation.{run_patterns, run_whens, run_any, run_tests, unless_nil, run_pairs, run_pieces, set_by_send, loop, set_exception, with_block, send_with, super_with, super_to, run, run_form, run_all, run_trees, run_other, run_last, run_receiver, run_given_value, run_clauses, run_clause, run_classes, run_defaults}
-use Rattle.code_meaning.specs.Code.{at_line, row_over, Routine, rows_at, Shape, done, op, ahead, part, size, Placed, finish}
+use Rattle.ruby_meaning.specs.Evaluation.{run_patterns, run_whens, run_any, run_tests, unless_nil, run_pairs, run_pieces, set_by_send, loop, set_exception, with_block, send_with, super_with, super_to, run, run_form, run_all, run_trees, run_other, run_last, run_receiver, run_given_value, run_clauses, run_clause, run_classes}
+use Rattle.code_meaning.specs.Code.{at_line, Routine, rows_at, Shape, done, op, ahead, part, size, Placed, finish}
 use Rattle.code_meaning.specs.Slots.{read_slot, set_slot, HaveNames}
-use Rattle.code_meaning.specs.Machine.{first_values, is_nil, pairs_of, Step, goes, pends, answer, drops, branch, with_value, with_args, with_top, block_answer, call_answer, is_valued, is_bare, literal_given, value_given, block_given, sent, super_to_method, super_sent, act, step, rescue_frame, ensure_frame, entered_in, entered_at, Runs, Follows}
+use Rattle.code_meaning.specs.Machine.{first_values, is_nil, pairs_of, Step, goes, pends, answer, drops, branch, with_value, with_args, with_top, call_answer, is_valued, is_bare, literal_given, value_given, sent, super_to_method, super_sent, act, step, rescue_frame, ensure_frame, entered_in, entered_at, Runs, Follows}
 use Rattle.code_meaning.proofs.Sizes.{finish_size}
 use Rattle.code_meaning.proofs.Placing.{placed}
 use Rattle.compile_table.specs.Shapes as table
 use Rattle.compile_table.specs.Shapes.{Where, looped, line_or, line_at, own, start, count, is_self_form, self_flag, receiver_flag, value_flag, bare_flag, plain_send, number_of, with_literal, path_start, throw_by, named, in_rescue, in_ensure, get_local, shape, form_shape, count_pairs, pairs_shape, params_shape, all_shape, rest_shape, args_shape, path_shape, receiver_shape, value_shape, other_shape, last_shape, values_shape, clauses_shape, clause_shape, classes_shape, bodies_shape}
-use Rattle.compile_laws.specs.Likeness.{core, with_flag}
-use Rattle.compile_laws.specs.Finds.{part_routine, body_routine, FindsBlock, Finds, FindsForm, AllHeld, FindsPairs, FindsPieces, FindsWhens, FindsTrees, FindsOther, FindsRescue, FindsRescueForm, FindsEnsure, FindsEnsureForm, FindsClauses, FindsParams, Stands, StandsIn, entry}
+use Rattle.compile_laws.specs.Likeness.{with_flag}
+use Rattle.compile_laws.specs.Finds.{part_routine, FindsBlock, Finds, FindsForm, AllHeld, FindsPairs, FindsPieces, FindsWhens, FindsTrees, FindsOther, FindsRescue, FindsRescueForm, FindsEnsure, FindsEnsureForm, FindsClauses, StandsIn}
 use Rattle.compile_laws.proofs.AlikeCalls.{raising_same, no_method_same, range_same, path_same, around_same, goal_same, method_defined_same, open_same, class_named_same, class_below_same, module_same, home_same, leave_same, given_same, given_block_same, call_same, super_same}
 use Rattle.compile_laws.proofs.After.{deeper_pending, leap_ahead, Pending, After, here, go, pend, answers, after_then}
 use Rattle.compile_laws.proofs.Ready.{Ready, KeepsReady}
@@ -492,7 +491,6 @@ module _ (files : Files) (b : Tree → Frame → Run) (seqs : ℕ → Routine) (
         (on seq frame c (p + 1) (frame.handled ∷ exception_only) z line (table.set_local l x) (p + 1 + 1) exception_only (set_local frame x frame.handled z) pl.2.0 (ap (λ y. goes (p + 1 + 1) exception_only y) (known.sets l.sight.scopes frame top x frame.handled z le held))
         (leave_ends line (p + 1 + 1) a s m (set_local frame x frame.handled z) pl.2.2 (d (p + 1 + 1) pl.2.2.0) (known.locals l.sight.scopes frame top x frame.handled z le) e))
 
-
   range_flag : (x : Bool) (seq : Routine) (frame : Frame) (p : ℕ) (v u : Value) (st : List Value) (z : World) (line : ℕ)
       → act files b seqs bodies seq.kind frame p (v ∷ (u ∷ st)) z line (NewRange (table.open_end x)) ≡ answer (p + 1) st (make_range frame line x u v z)
   range_flag true seq frame p v u st z line = refl
@@ -658,169 +656,169 @@ module _ (files : Files) (b : Tree → Frame → Run) (seqs : ℕ → Routine) (
   form_range_ends : (a : Tree) (e : Tree) (x : Bool) (l : Where) (s : SourcePosition) (seq : Routine) (frame : Frame) (out : List CatchRow) (h p : ℕ) → StandsIn l frame → T l seq frame a → T l seq frame e → FindsForm seqs bodies l (range a e x) → Placed seq.body.code seq.body.rows out h p (form_shape l (range a e x) s)
       → D l seq frame out h p (finish p (form_shape l (range a e x) s)) (run_form files top b (range a e x) s (with_loop l frame))
   form_range_ends a e x l s seq frame out h p sd da de fs pl = λ c st w high le k.
-        let pa = finish p (shape l a) in let pe = finish pa (shape l e) in
-        tree_then seq frame out (h + 0) p pa (pe + 1) l a (da out (h + 0) p pl.0) c st [] st w (λ u. then (run_it l frame e) (λ v. make_range (with_loop l frame) s.line x u v)) high (omega arith) refl le
-        (λ u z b1 k1. tree_then seq frame out (h + 1) pa pe (pe + 1) l e (de out (h + 1) pa pl.1.0) c (u ∷ st) (u ∷ []) st z (λ v. make_range (with_loop l frame) s.line x u v) high (omega arith) refl b1
-        (λ v z1 b2 k2. answered seq frame c pe (pe + 1) (v ∷ (u ∷ st)) st (v ∷ (u ∷ [])) z1 out (own l s) (NewRange (table.open_end x)) (make_range frame (own l s) x u v z1) (make_range (with_loop l frame) s.line x u v z1) pl.1.1.0 pl.1.1.1 (range_flag x seq frame pe v u st z1 (own l s)) refl
-        (ap (λ f. f z1) (range_same (with_loop l frame) frame s.line (own l s) refl (own_lines l frame sd.of_first s.line) x u v)) k2) k1) k
+      let pa = finish p (shape l a) in let pe = finish pa (shape l e) in
+      tree_then seq frame out (h + 0) p pa (pe + 1) l a (da out (h + 0) p pl.0) c st [] st w (λ u. then (run_it l frame e) (λ v. make_range (with_loop l frame) s.line x u v)) high (omega arith) refl le
+      (λ u z b1 k1. tree_then seq frame out (h + 1) pa pe (pe + 1) l e (de out (h + 1) pa pl.1.0) c (u ∷ st) (u ∷ []) st z (λ v. make_range (with_loop l frame) s.line x u v) high (omega arith) refl b1
+      (λ v z1 b2 k2. answered seq frame c pe (pe + 1) (v ∷ (u ∷ st)) st (v ∷ (u ∷ [])) z1 out (own l s) (NewRange (table.open_end x)) (make_range frame (own l s) x u v z1) (make_range (with_loop l frame) s.line x u v z1) pl.1.1.0 pl.1.1.1 (range_flag x seq frame pe v u st z1 (own l s)) refl
+      (ap (λ f. f z1) (range_same (with_loop l frame) frame s.line (own l s) refl (own_lines l frame sd.of_first s.line) x u v)) k2) k1) k
 
   form_assign_ends : (t : Tree) (g : Goal) (l : Where) (s : SourcePosition) (seq : Routine) (frame : Frame) (out : List CatchRow) (h p : ℕ) → StandsIn l frame → T l seq frame t → FindsForm seqs bodies l (assign t g) → Placed seq.body.code seq.body.rows out h p (form_shape l (assign t g) s)
       → D l seq frame out h p (finish p (form_shape l (assign t g) s)) (run_form files top b (assign t g) s (with_loop l frame))
   form_assign_ends t g l s seq frame out h p sd dt fs pl = λ c st w high le k.
-        let p1 = finish p (shape l t) in
-        tree_then seq frame out (h + 0) p p1 (p1 + 1 + 1) l t (dt out (h + 0) p pl.0) c st [] st w (set_goal (with_loop l frame) s.line g) high (omega arith) refl le
-        (λ v z b1 a. on seq frame c p1 (v ∷ st) z (own l s) Dup (p1 + 1) (v ∷ (v ∷ st)) z pl.1.0 refl
-        (dropped seq frame c (p1 + 1) (p1 + 1 + 1) (p1 + 1 + 1) (v ∷ (v ∷ st)) (v ∷ st) st (v ∷ (v ∷ [])) z out (own l s) (table.set_goal l g) (set_goal frame (own l s) g v z) (λ u. Done v) (λ y. ⊤) pl.1.2.0 pl.1.2.1
-        (goal_acts g l seq frame (p1 + 1) (own l s) v (v ∷ st) z fs.1 b1) refl tt (λ u z1 y k1. k1)
-        (subst (λ o. A seq frame c (p1 + 1 + 1) st out o) (ap (λ f. f z) (goal_same (with_loop l frame) frame s.line (own l s) refl (own_lines l frame sd.of_first s.line) g v) ∙ set_value frame (own l s) g v z) a))) k
+      let p1 = finish p (shape l t) in
+      tree_then seq frame out (h + 0) p p1 (p1 + 1 + 1) l t (dt out (h + 0) p pl.0) c st [] st w (set_goal (with_loop l frame) s.line g) high (omega arith) refl le
+      (λ v z b1 a. on seq frame c p1 (v ∷ st) z (own l s) Dup (p1 + 1) (v ∷ (v ∷ st)) z pl.1.0 refl
+      (dropped seq frame c (p1 + 1) (p1 + 1 + 1) (p1 + 1 + 1) (v ∷ (v ∷ st)) (v ∷ st) st (v ∷ (v ∷ [])) z out (own l s) (table.set_goal l g) (set_goal frame (own l s) g v z) (λ u. Done v) (λ y. ⊤) pl.1.2.0 pl.1.2.1
+      (goal_acts g l seq frame (p1 + 1) (own l s) v (v ∷ st) z fs.1 b1) refl tt (λ u z1 y k1. k1)
+      (subst (λ o. A seq frame c (p1 + 1 + 1) st out o) (ap (λ f. f z) (goal_same (with_loop l frame) frame s.line (own l s) refl (own_lines l frame sd.of_first s.line) g v) ∙ set_value frame (own l s) g v z) a))) k
 
   form_assign_attribute_ends : (a : Tree) (t : Tree) (m : Bytes) (l : Where) (s : SourcePosition) (seq : Routine) (frame : Frame) (out : List CatchRow) (h p : ℕ) → StandsIn l frame → T l seq frame a → T l seq frame t → FindsForm seqs bodies l (assign_attribute a t m) → Placed seq.body.code seq.body.rows out h p (form_shape l (assign_attribute a t m) s)
       → D l seq frame out h p (finish p (form_shape l (assign_attribute a t m) s)) (run_form files top b (assign_attribute a t m) s (with_loop l frame))
   form_assign_attribute_ends a t m l s seq frame out h p sd da dt fs pl = λ c st w high le k.
-        let pa = finish (p + 1) (shape l a) in let pt = finish pa (shape l t) in
-        on seq frame c p st w (start l s) PutNil (p + 1) (nil ∷ st) w pl.0 refl
-        (tree_then seq frame out (h + 1) (p + 1) pa (pt + 1 + 1 + 1) l a (da out (h + 1) (p + 1) pl.2.0) c (nil ∷ st) (nil ∷ []) st w
-        (λ o. then (run_it l frame t) (λ v. set_by_send files top b (with_loop l frame) s.line o m (v ∷ []) v)) high (omega arith) refl le
-        (λ o w1 b1 k1. tree_then seq frame out (h + 2) pa pt (pt + 1 + 1 + 1) l t (dt out (h + 2) pa pl.2.1.0) c (o ∷ (nil ∷ st)) (o ∷ (nil ∷ [])) st w1
-        (λ v. set_by_send files top b (with_loop l frame) s.line o m (v ∷ []) v) high (omega arith) refl b1
-        (λ v w2 b2 k2. set_ends l seq frame out h pt (start l s) 2 s.line m 1 (self_flag a) (v ∷ []) o v (v ∷ (o ∷ (nil ∷ st))) st w2 c (pt + 1 + 1 + 1) done sd.of_first (self_bit a) refl pl.2.1.1 refl (λ z r. r) k2) k1) k)
+      let pa = finish (p + 1) (shape l a) in let pt = finish pa (shape l t) in
+      on seq frame c p st w (start l s) PutNil (p + 1) (nil ∷ st) w pl.0 refl
+      (tree_then seq frame out (h + 1) (p + 1) pa (pt + 1 + 1 + 1) l a (da out (h + 1) (p + 1) pl.2.0) c (nil ∷ st) (nil ∷ []) st w
+      (λ o. then (run_it l frame t) (λ v. set_by_send files top b (with_loop l frame) s.line o m (v ∷ []) v)) high (omega arith) refl le
+      (λ o w1 b1 k1. tree_then seq frame out (h + 2) pa pt (pt + 1 + 1 + 1) l t (dt out (h + 2) pa pl.2.1.0) c (o ∷ (nil ∷ st)) (o ∷ (nil ∷ [])) st w1
+      (λ v. set_by_send files top b (with_loop l frame) s.line o m (v ∷ []) v) high (omega arith) refl b1
+      (λ v w2 b2 k2. set_ends l seq frame out h pt (start l s) 2 s.line m 1 (self_flag a) (v ∷ []) o v (v ∷ (o ∷ (nil ∷ st))) st w2 c (pt + 1 + 1 + 1) done sd.of_first (self_bit a) refl pl.2.1.1 refl (λ z r. r) k2) k1) k)
 
   form_assign_index_ends : (a : Tree) (i : Tree) (t : Tree) (l : Where) (s : SourcePosition) (seq : Routine) (frame : Frame) (out : List CatchRow) (h p : ℕ) → StandsIn l frame → T l seq frame a → T l seq frame i → T l seq frame t → FindsForm seqs bodies l (assign_index a i t) → Placed seq.body.code seq.body.rows out h p (form_shape l (assign_index a i t) s)
       → D l seq frame out h p (finish p (form_shape l (assign_index a i t) s)) (run_form files top b (assign_index a i t) s (with_loop l frame))
   form_assign_index_ends a i t l s seq frame out h p sd da di dt fs pl = λ c st w high le k.
-        let pa = finish (p + 1) (shape l a) in let pi = finish pa (shape l i) in let pt = finish pi (shape l t) in let set = codes "[]=" in
-        on seq frame c p st w (start l s) PutNil (p + 1) (nil ∷ st) w pl.0 refl
-        (tree_then seq frame out (h + 1) (p + 1) pa (pt + 1 + 1 + 1) l a (da out (h + 1) (p + 1) pl.2.0) c (nil ∷ st) (nil ∷ []) st w
-        (λ o. then (run_it l frame i) (λ j. then (run_it l frame t) (λ v. set_by_send files top b (with_loop l frame) s.line o set (j ∷ (v ∷ [])) v))) high (omega arith) refl le
-        (λ o w1 b1 k1. tree_then seq frame out (h + 2) pa pi (pt + 1 + 1 + 1) l i (di out (h + 2) pa pl.2.1.0) c (o ∷ (nil ∷ st)) (o ∷ (nil ∷ [])) st w1
-        (λ j. then (run_it l frame t) (λ v. set_by_send files top b (with_loop l frame) s.line o set (j ∷ (v ∷ [])) v)) high (omega arith) refl b1
-        (λ j w2 b2 k2. tree_then seq frame out (h + 3) pi pt (pt + 1 + 1 + 1) l t (dt out (h + 3) pi pl.2.1.1.0) c (j ∷ (o ∷ (nil ∷ st))) (j ∷ (o ∷ (nil ∷ []))) st w2
-        (λ v. set_by_send files top b (with_loop l frame) s.line o set (j ∷ (v ∷ [])) v) high (omega arith) refl b2
-        (λ v w3 b3 k3. set_ends l seq frame out h pt (start l s) 3 s.line set 2 (self_flag a) (j ∷ (v ∷ [])) o v (v ∷ (j ∷ (o ∷ (nil ∷ st)))) st w3 c (pt + 1 + 1 + 1) done sd.of_first (self_bit a) refl pl.2.1.1.1 refl (λ z r. r) k3) k2) k1) k)
+      let pa = finish (p + 1) (shape l a) in let pi = finish pa (shape l i) in let pt = finish pi (shape l t) in let set = codes "[]=" in
+      on seq frame c p st w (start l s) PutNil (p + 1) (nil ∷ st) w pl.0 refl
+      (tree_then seq frame out (h + 1) (p + 1) pa (pt + 1 + 1 + 1) l a (da out (h + 1) (p + 1) pl.2.0) c (nil ∷ st) (nil ∷ []) st w
+      (λ o. then (run_it l frame i) (λ j. then (run_it l frame t) (λ v. set_by_send files top b (with_loop l frame) s.line o set (j ∷ (v ∷ [])) v))) high (omega arith) refl le
+      (λ o w1 b1 k1. tree_then seq frame out (h + 2) pa pi (pt + 1 + 1 + 1) l i (di out (h + 2) pa pl.2.1.0) c (o ∷ (nil ∷ st)) (o ∷ (nil ∷ [])) st w1
+      (λ j. then (run_it l frame t) (λ v. set_by_send files top b (with_loop l frame) s.line o set (j ∷ (v ∷ [])) v)) high (omega arith) refl b1
+      (λ j w2 b2 k2. tree_then seq frame out (h + 3) pi pt (pt + 1 + 1 + 1) l t (dt out (h + 3) pi pl.2.1.1.0) c (j ∷ (o ∷ (nil ∷ st))) (j ∷ (o ∷ (nil ∷ []))) st w2
+      (λ v. set_by_send files top b (with_loop l frame) s.line o set (j ∷ (v ∷ [])) v) high (omega arith) refl b2
+      (λ v w3 b3 k3. set_ends l seq frame out h pt (start l s) 3 s.line set 2 (self_flag a) (j ∷ (v ∷ [])) o v (v ∷ (j ∷ (o ∷ (nil ∷ st)))) st w3 c (pt + 1 + 1 + 1) done sd.of_first (self_bit a) refl pl.2.1.1.1 refl (λ z r. r) k3) k2) k1) k)
 
   form_operate_attribute_ends : (a : Tree) (x : Bytes) (t : Tree) (f : Bytes) (m : Bytes) (n : ℕ) (l : Where) (s : SourcePosition) (seq : Routine) (frame : Frame) (out : List CatchRow) (h p : ℕ) → StandsIn l frame → T l seq frame a → T l seq frame t → FindsForm seqs bodies l (operate_attribute a x t f m n) → Placed seq.body.code seq.body.rows out h p (form_shape l (operate_attribute a x t f m n) s)
       → D l seq frame out h p (finish p (form_shape l (operate_attribute a x t f m n) s)) (run_form files top b (operate_attribute a x t f m n) s (with_loop l frame))
   form_operate_attribute_ends a x t f m n l s seq frame out h p sd da dt fs pl = λ c st w high le k.
-        let pa = finish (p + 1) (shape l a) in let pv = finish (pa + 1 + 1) (shape l t) in let fin = pv + 1 + 1 + 1 + 1 in
-        on seq frame c p st w (start l s) PutNil (p + 1) (nil ∷ st) w pl.0 refl
-        (tree_then seq frame out (h + 1) (p + 1) pa fin l a (da out (h + 1) (p + 1) pl.2.0) c (nil ∷ st) (nil ∷ []) st w
-        (λ o. then (call_method files b (with_loop l frame) s.line o x [] no_block false) (λ u. then (run_it l frame t) (λ v. then (call_method files b (with_loop l frame) n u f (v ∷ []) no_block false) (λ r. set_by_send files top b (with_loop l frame) s.line o m (r ∷ []) r)))) high (omega arith) refl le
-        (λ o w1 b1 k1. on seq frame c pa (o ∷ (nil ∷ st)) w1 (start l s) Dup (pa + 1) (o ∷ (o ∷ (nil ∷ st))) w1 pl.2.1.0 refl
-        (send_then l seq frame out (pa + 1) fin s.line x 0 (self_flag a) [] o (o ∷ (nil ∷ st)) (o ∷ (nil ∷ [])) st w1 c (λ u. then (run_it l frame t) (λ v. then (call_method files b (with_loop l frame) n u f (v ∷ []) no_block false) (λ r. set_by_send files top b (with_loop l frame) s.line o m (r ∷ []) r))) sd.of_first (self_bit a) refl pl.2.1.2.0 pl.2.1.2.1 refl b1
-        (λ u w2 b2 k2. operate_ends l seq frame out h (pa + 1 + 1) (start l s) 2 s.line n f m 1 (self_flag a) t (λ r. r ∷ []) o (o ∷ (nil ∷ st)) (o ∷ (nil ∷ [])) st u w2 c sd.of_first (self_bit a) (λ v. refl) pl.2.1.2.2 (omega (arith, high.tall)) refl high b2 (λ q v z. refl) (dt out (h + 3) (pa + 1 + 1) pl.2.1.2.2.0) k2) k1)) k)
+      let pa = finish (p + 1) (shape l a) in let pv = finish (pa + 1 + 1) (shape l t) in let fin = pv + 1 + 1 + 1 + 1 in
+      on seq frame c p st w (start l s) PutNil (p + 1) (nil ∷ st) w pl.0 refl
+      (tree_then seq frame out (h + 1) (p + 1) pa fin l a (da out (h + 1) (p + 1) pl.2.0) c (nil ∷ st) (nil ∷ []) st w
+      (λ o. then (call_method files b (with_loop l frame) s.line o x [] no_block false) (λ u. then (run_it l frame t) (λ v. then (call_method files b (with_loop l frame) n u f (v ∷ []) no_block false) (λ r. set_by_send files top b (with_loop l frame) s.line o m (r ∷ []) r)))) high (omega arith) refl le
+      (λ o w1 b1 k1. on seq frame c pa (o ∷ (nil ∷ st)) w1 (start l s) Dup (pa + 1) (o ∷ (o ∷ (nil ∷ st))) w1 pl.2.1.0 refl
+      (send_then l seq frame out (pa + 1) fin s.line x 0 (self_flag a) [] o (o ∷ (nil ∷ st)) (o ∷ (nil ∷ [])) st w1 c (λ u. then (run_it l frame t) (λ v. then (call_method files b (with_loop l frame) n u f (v ∷ []) no_block false) (λ r. set_by_send files top b (with_loop l frame) s.line o m (r ∷ []) r))) sd.of_first (self_bit a) refl pl.2.1.2.0 pl.2.1.2.1 refl b1
+      (λ u w2 b2 k2. operate_ends l seq frame out h (pa + 1 + 1) (start l s) 2 s.line n f m 1 (self_flag a) t (λ r. r ∷ []) o (o ∷ (nil ∷ st)) (o ∷ (nil ∷ [])) st u w2 c sd.of_first (self_bit a) (λ v. refl) pl.2.1.2.2 (omega (arith, high.tall)) refl high b2 (λ q v z. refl) (dt out (h + 3) (pa + 1 + 1) pl.2.1.2.2.0) k2) k1)) k)
 
   form_or_attribute_ends : (a : Tree) (x : Bytes) (t : Tree) (m : Bytes) (l : Where) (s : SourcePosition) (seq : Routine) (frame : Frame) (out : List CatchRow) (h p : ℕ) → StandsIn l frame → T l seq frame a → T l seq frame t → FindsForm seqs bodies l (or_attribute a x t m) → Placed seq.body.code seq.body.rows out h p (form_shape l (or_attribute a x t m) s)
       → D l seq frame out h p (finish p (form_shape l (or_attribute a x t m) s)) (run_form files top b (or_attribute a x t m) s (with_loop l frame))
   form_or_attribute_ends a x t m l s seq frame out h p sd da dt fs pl = λ c st w high le k.
-        let pa = finish (p + 1) (shape l a) in let pv = finish (pa + 1 + 1 + 1 + 1 + 1) (shape l t) in let fin = pv + 1 + 1 + 1 + 1 + 1 + 1 in
-        on seq frame c p st w (start l s) PutNil (p + 1) (nil ∷ st) w pl.0 refl
-        (tree_then seq frame out (h + 1) (p + 1) pa fin l a (da out (h + 1) (p + 1) pl.2.0) c (nil ∷ st) (nil ∷ []) st w
-        (λ o. then (call_method files b (with_loop l frame) s.line o x [] no_block false) (λ u. choose (is_true u) (Done u) (then (run_it l frame t) (λ v. set_by_send files top b (with_loop l frame) s.line o m (v ∷ []) v)))) high (omega arith) refl le
-        (λ o w1 b1 k1. on seq frame c pa (o ∷ (nil ∷ st)) w1 (start l s) Dup (pa + 1) (o ∷ (o ∷ (nil ∷ st))) w1 pl.2.1.0 refl
-        (send_then l seq frame out (pa + 1) fin s.line x 0 (self_flag a) [] o (o ∷ (nil ∷ st)) (o ∷ (nil ∷ [])) st w1 c (λ u. choose (is_true u) (Done u) (then (run_it l frame t) (λ v. set_by_send files top b (with_loop l frame) s.line o m (v ∷ []) v))) sd.of_first (self_bit a) refl pl.2.1.2.0 pl.2.1.2.1 refl b1
-        (λ u w2 b2 k2. or_ends (is_true u) l seq frame out h (pa + 1 + 1) (start l s) 2 s.line m 1 (self_flag a) t (λ v. v ∷ []) o (o ∷ (nil ∷ st)) (o ∷ (nil ∷ [])) st (u ∷ (o ∷ (u ∷ st))) u w2 c BranchIf (is_true u) sd.of_first (self_bit a) (λ v. refl) pl.2.1.2.2 (omega (arith, high.tall)) refl high b2 (λ q. refl) (λ q v z. refl) (λ q. refl) (λ q. refl) (dt out (h + 2) (pa + 1 + 1 + 1 + 1 + 1) pl.2.1.2.2.2.2.2.0) refl k2) k1)) k)
+      let pa = finish (p + 1) (shape l a) in let pv = finish (pa + 1 + 1 + 1 + 1 + 1) (shape l t) in let fin = pv + 1 + 1 + 1 + 1 + 1 + 1 in
+      on seq frame c p st w (start l s) PutNil (p + 1) (nil ∷ st) w pl.0 refl
+      (tree_then seq frame out (h + 1) (p + 1) pa fin l a (da out (h + 1) (p + 1) pl.2.0) c (nil ∷ st) (nil ∷ []) st w
+      (λ o. then (call_method files b (with_loop l frame) s.line o x [] no_block false) (λ u. choose (is_true u) (Done u) (then (run_it l frame t) (λ v. set_by_send files top b (with_loop l frame) s.line o m (v ∷ []) v)))) high (omega arith) refl le
+      (λ o w1 b1 k1. on seq frame c pa (o ∷ (nil ∷ st)) w1 (start l s) Dup (pa + 1) (o ∷ (o ∷ (nil ∷ st))) w1 pl.2.1.0 refl
+      (send_then l seq frame out (pa + 1) fin s.line x 0 (self_flag a) [] o (o ∷ (nil ∷ st)) (o ∷ (nil ∷ [])) st w1 c (λ u. choose (is_true u) (Done u) (then (run_it l frame t) (λ v. set_by_send files top b (with_loop l frame) s.line o m (v ∷ []) v))) sd.of_first (self_bit a) refl pl.2.1.2.0 pl.2.1.2.1 refl b1
+      (λ u w2 b2 k2. or_ends (is_true u) l seq frame out h (pa + 1 + 1) (start l s) 2 s.line m 1 (self_flag a) t (λ v. v ∷ []) o (o ∷ (nil ∷ st)) (o ∷ (nil ∷ [])) st (u ∷ (o ∷ (u ∷ st))) u w2 c BranchIf (is_true u) sd.of_first (self_bit a) (λ v. refl) pl.2.1.2.2 (omega (arith, high.tall)) refl high b2 (λ q. refl) (λ q v z. refl) (λ q. refl) (λ q. refl) (dt out (h + 2) (pa + 1 + 1 + 1 + 1 + 1) pl.2.1.2.2.2.2.2.0) refl k2) k1)) k)
 
   form_and_attribute_ends : (a : Tree) (x : Bytes) (t : Tree) (m : Bytes) (l : Where) (s : SourcePosition) (seq : Routine) (frame : Frame) (out : List CatchRow) (h p : ℕ) → StandsIn l frame → T l seq frame a → T l seq frame t → FindsForm seqs bodies l (and_attribute a x t m) → Placed seq.body.code seq.body.rows out h p (form_shape l (and_attribute a x t m) s)
       → D l seq frame out h p (finish p (form_shape l (and_attribute a x t m) s)) (run_form files top b (and_attribute a x t m) s (with_loop l frame))
   form_and_attribute_ends a x t m l s seq frame out h p sd da dt fs pl = λ c st w high le k.
-        let pa = finish (p + 1) (shape l a) in let pv = finish (pa + 1 + 1 + 1 + 1 + 1) (shape l t) in let fin = pv + 1 + 1 + 1 + 1 + 1 + 1 in
-        on seq frame c p st w (start l s) PutNil (p + 1) (nil ∷ st) w pl.0 refl
-        (tree_then seq frame out (h + 1) (p + 1) pa fin l a (da out (h + 1) (p + 1) pl.2.0) c (nil ∷ st) (nil ∷ []) st w
-        (λ o. then (call_method files b (with_loop l frame) s.line o x [] no_block false) (λ u. choose (is_true u) (then (run_it l frame t) (λ v. set_by_send files top b (with_loop l frame) s.line o m (v ∷ []) v)) (Done u))) high (omega arith) refl le
-        (λ o w1 b1 k1. on seq frame c pa (o ∷ (nil ∷ st)) w1 (start l s) Dup (pa + 1) (o ∷ (o ∷ (nil ∷ st))) w1 pl.2.1.0 refl
-        (send_then l seq frame out (pa + 1) fin s.line x 0 (self_flag a) [] o (o ∷ (nil ∷ st)) (o ∷ (nil ∷ [])) st w1 c (λ u. choose (is_true u) (then (run_it l frame t) (λ v. set_by_send files top b (with_loop l frame) s.line o m (v ∷ []) v)) (Done u)) sd.of_first (self_bit a) refl pl.2.1.2.0 pl.2.1.2.1 refl b1
-        (λ u w2 b2 k2. or_ends (not (is_true u)) l seq frame out h (pa + 1 + 1) (start l s) 2 s.line m 1 (self_flag a) t (λ v. v ∷ []) o (o ∷ (nil ∷ st)) (o ∷ (nil ∷ [])) st (u ∷ (o ∷ (u ∷ st))) u w2 c BranchUnless (not (is_true u)) sd.of_first (self_bit a) (λ v. refl) pl.2.1.2.2 (omega (arith, high.tall)) refl high b2 (λ q. refl) (λ q v z. refl) (λ q. refl) (λ q. refl) (dt out (h + 2) (pa + 1 + 1 + 1 + 1 + 1) pl.2.1.2.2.2.2.2.0) refl (subst (λ y. A seq frame c fin st out y) (choose_not (is_true u) (then (run_it l frame t) (λ v. set_by_send files top b (with_loop l frame) s.line o m (v ∷ []) v)) (Done u) w2) k2)) k1)) k)
+      let pa = finish (p + 1) (shape l a) in let pv = finish (pa + 1 + 1 + 1 + 1 + 1) (shape l t) in let fin = pv + 1 + 1 + 1 + 1 + 1 + 1 in
+      on seq frame c p st w (start l s) PutNil (p + 1) (nil ∷ st) w pl.0 refl
+      (tree_then seq frame out (h + 1) (p + 1) pa fin l a (da out (h + 1) (p + 1) pl.2.0) c (nil ∷ st) (nil ∷ []) st w
+      (λ o. then (call_method files b (with_loop l frame) s.line o x [] no_block false) (λ u. choose (is_true u) (then (run_it l frame t) (λ v. set_by_send files top b (with_loop l frame) s.line o m (v ∷ []) v)) (Done u))) high (omega arith) refl le
+      (λ o w1 b1 k1. on seq frame c pa (o ∷ (nil ∷ st)) w1 (start l s) Dup (pa + 1) (o ∷ (o ∷ (nil ∷ st))) w1 pl.2.1.0 refl
+      (send_then l seq frame out (pa + 1) fin s.line x 0 (self_flag a) [] o (o ∷ (nil ∷ st)) (o ∷ (nil ∷ [])) st w1 c (λ u. choose (is_true u) (then (run_it l frame t) (λ v. set_by_send files top b (with_loop l frame) s.line o m (v ∷ []) v)) (Done u)) sd.of_first (self_bit a) refl pl.2.1.2.0 pl.2.1.2.1 refl b1
+      (λ u w2 b2 k2. or_ends (not (is_true u)) l seq frame out h (pa + 1 + 1) (start l s) 2 s.line m 1 (self_flag a) t (λ v. v ∷ []) o (o ∷ (nil ∷ st)) (o ∷ (nil ∷ [])) st (u ∷ (o ∷ (u ∷ st))) u w2 c BranchUnless (not (is_true u)) sd.of_first (self_bit a) (λ v. refl) pl.2.1.2.2 (omega (arith, high.tall)) refl high b2 (λ q. refl) (λ q v z. refl) (λ q. refl) (λ q. refl) (dt out (h + 2) (pa + 1 + 1 + 1 + 1 + 1) pl.2.1.2.2.2.2.2.0) refl (subst (λ y. A seq frame c fin st out y) (choose_not (is_true u) (then (run_it l frame t) (λ v. set_by_send files top b (with_loop l frame) s.line o m (v ∷ []) v)) (Done u) w2) k2)) k1)) k)
 
   form_operate_index_ends : (a : Tree) (i : Tree) (t : Tree) (f : Bytes) (n : ℕ) (l : Where) (s : SourcePosition) (seq : Routine) (frame : Frame) (out : List CatchRow) (h p : ℕ) → StandsIn l frame → T l seq frame a → T l seq frame i → T l seq frame t → FindsForm seqs bodies l (operate_index a i t f n) → Placed seq.body.code seq.body.rows out h p (form_shape l (operate_index a i t f n) s)
       → D l seq frame out h p (finish p (form_shape l (operate_index a i t f n) s)) (run_form files top b (operate_index a i t f n) s (with_loop l frame))
   form_operate_index_ends a i t f n l s seq frame out h p sd da di dt fs pl = λ c st w high le k.
-        let pa = finish (p + 1) (shape l a) in let pi = finish pa (shape l i) in let pr = pi + 1 + 1 + 1 in let pv = finish (pr) (shape l t) in let fin = pv + 1 + 1 + 1 + 1 in let set = codes "[]=" in
-        on seq frame c p st w (start l s) PutNil (p + 1) (nil ∷ st) w pl.0 refl
-        (tree_then seq frame out (h + 1) (p + 1) pa fin l a (da out (h + 1) (p + 1) pl.2.0) c (nil ∷ st) (nil ∷ []) st w
-        (λ o. then (run_it l frame i) (λ j. then (call_method files b (with_loop l frame) s.line o (codes "[]") (j ∷ []) no_block false) (λ u. then (run_it l frame t) (λ v. then (call_method files b (with_loop l frame) n u f (v ∷ []) no_block false) (λ r. set_by_send files top b (with_loop l frame) s.line o set (j ∷ (r ∷ [])) r))))) high (omega arith) refl le
-        (λ o w1 b1 k1. tree_then seq frame out (h + 2) pa pi fin l i (di out (h + 2) pa pl.2.1.0) c (o ∷ (nil ∷ st)) (o ∷ (nil ∷ [])) st w1
-        (λ j. then (call_method files b (with_loop l frame) s.line o (codes "[]") (j ∷ []) no_block false) (λ u. then (run_it l frame t) (λ v. then (call_method files b (with_loop l frame) n u f (v ∷ []) no_block false) (λ r. set_by_send files top b (with_loop l frame) s.line o set (j ∷ (r ∷ [])) r)))) high (omega arith) refl b1
-        (λ j w3 b3 k3. on seq frame c pi (j ∷ (o ∷ (nil ∷ st))) w3 (start l s) (TopN 1) (pi + 1) (o ∷ (j ∷ (o ∷ (nil ∷ st)))) w3 pl.2.1.1.0 refl
-        (on seq frame c (pi + 1) (o ∷ (j ∷ (o ∷ (nil ∷ st)))) w3 (start l s) (TopN 1) (pi + 1 + 1) (j ∷ (o ∷ (j ∷ (o ∷ (nil ∷ st))))) w3 pl.2.1.1.2.0 refl
-        (send_then l seq frame out (pi + 1 + 1) fin s.line (codes "[]") 1 (self_flag a) (j ∷ []) o (j ∷ (o ∷ (nil ∷ st))) (j ∷ (o ∷ (nil ∷ []))) st w3 c (λ u. then (run_it l frame t) (λ v. then (call_method files b (with_loop l frame) n u f (v ∷ []) no_block false) (λ r. set_by_send files top b (with_loop l frame) s.line o set (j ∷ (r ∷ [])) r))) sd.of_first (self_bit a) refl pl.2.1.1.2.2.0 pl.2.1.1.2.2.1 refl b3
-        (λ u w2 b2 k2. operate_ends l seq frame out h pr (start l s) 3 s.line n f set 2 (self_flag a) t (λ r. j ∷ (r ∷ [])) o (j ∷ (o ∷ (nil ∷ st))) (j ∷ (o ∷ (nil ∷ []))) st u w2 c sd.of_first (self_bit a) (λ v. refl) pl.2.1.1.2.2.2 (omega (arith, high.tall)) refl high b2 (λ q v z. refl) (dt out (h + 4) pr pl.2.1.1.2.2.2.0) k2) k3))) k1) k)
+      let pa = finish (p + 1) (shape l a) in let pi = finish pa (shape l i) in let pr = pi + 1 + 1 + 1 in let pv = finish (pr) (shape l t) in let fin = pv + 1 + 1 + 1 + 1 in let set = codes "[]=" in
+      on seq frame c p st w (start l s) PutNil (p + 1) (nil ∷ st) w pl.0 refl
+      (tree_then seq frame out (h + 1) (p + 1) pa fin l a (da out (h + 1) (p + 1) pl.2.0) c (nil ∷ st) (nil ∷ []) st w
+      (λ o. then (run_it l frame i) (λ j. then (call_method files b (with_loop l frame) s.line o (codes "[]") (j ∷ []) no_block false) (λ u. then (run_it l frame t) (λ v. then (call_method files b (with_loop l frame) n u f (v ∷ []) no_block false) (λ r. set_by_send files top b (with_loop l frame) s.line o set (j ∷ (r ∷ [])) r))))) high (omega arith) refl le
+      (λ o w1 b1 k1. tree_then seq frame out (h + 2) pa pi fin l i (di out (h + 2) pa pl.2.1.0) c (o ∷ (nil ∷ st)) (o ∷ (nil ∷ [])) st w1
+      (λ j. then (call_method files b (with_loop l frame) s.line o (codes "[]") (j ∷ []) no_block false) (λ u. then (run_it l frame t) (λ v. then (call_method files b (with_loop l frame) n u f (v ∷ []) no_block false) (λ r. set_by_send files top b (with_loop l frame) s.line o set (j ∷ (r ∷ [])) r)))) high (omega arith) refl b1
+      (λ j w3 b3 k3. on seq frame c pi (j ∷ (o ∷ (nil ∷ st))) w3 (start l s) (TopN 1) (pi + 1) (o ∷ (j ∷ (o ∷ (nil ∷ st)))) w3 pl.2.1.1.0 refl
+      (on seq frame c (pi + 1) (o ∷ (j ∷ (o ∷ (nil ∷ st)))) w3 (start l s) (TopN 1) (pi + 1 + 1) (j ∷ (o ∷ (j ∷ (o ∷ (nil ∷ st))))) w3 pl.2.1.1.2.0 refl
+      (send_then l seq frame out (pi + 1 + 1) fin s.line (codes "[]") 1 (self_flag a) (j ∷ []) o (j ∷ (o ∷ (nil ∷ st))) (j ∷ (o ∷ (nil ∷ []))) st w3 c (λ u. then (run_it l frame t) (λ v. then (call_method files b (with_loop l frame) n u f (v ∷ []) no_block false) (λ r. set_by_send files top b (with_loop l frame) s.line o set (j ∷ (r ∷ [])) r))) sd.of_first (self_bit a) refl pl.2.1.1.2.2.0 pl.2.1.1.2.2.1 refl b3
+      (λ u w2 b2 k2. operate_ends l seq frame out h pr (start l s) 3 s.line n f set 2 (self_flag a) t (λ r. j ∷ (r ∷ [])) o (j ∷ (o ∷ (nil ∷ st))) (j ∷ (o ∷ (nil ∷ []))) st u w2 c sd.of_first (self_bit a) (λ v. refl) pl.2.1.1.2.2.2 (omega (arith, high.tall)) refl high b2 (λ q v z. refl) (dt out (h + 4) pr pl.2.1.1.2.2.2.0) k2) k3))) k1) k)
 
   form_or_index_ends : (a : Tree) (i : Tree) (t : Tree) (l : Where) (s : SourcePosition) (seq : Routine) (frame : Frame) (out : List CatchRow) (h p : ℕ) → StandsIn l frame → T l seq frame a → T l seq frame i → T l seq frame t → FindsForm seqs bodies l (or_index a i t) → Placed seq.body.code seq.body.rows out h p (form_shape l (or_index a i t) s)
       → D l seq frame out h p (finish p (form_shape l (or_index a i t) s)) (run_form files top b (or_index a i t) s (with_loop l frame))
   form_or_index_ends a i t l s seq frame out h p sd da di dt fs pl = λ c st w high le k.
-        let pa = finish (p + 1) (shape l a) in let pi = finish pa (shape l i) in let pr = pi + 1 + 1 + 1 in let pv = finish (pr + 1 + 1 + 1) (shape l t) in let fin = pv + 1 + 1 + 1 + 1 + 1 + 1 in let set = codes "[]=" in
-        on seq frame c p st w (start l s) PutNil (p + 1) (nil ∷ st) w pl.0 refl
-        (tree_then seq frame out (h + 1) (p + 1) pa fin l a (da out (h + 1) (p + 1) pl.2.0) c (nil ∷ st) (nil ∷ []) st w
-        (λ o. then (run_it l frame i) (λ j. then (call_method files b (with_loop l frame) s.line o (codes "[]") (j ∷ []) no_block false) (λ u. choose (is_true u) (Done u) (then (run_it l frame t) (λ v. set_by_send files top b (with_loop l frame) s.line o set (j ∷ (v ∷ [])) v))))) high (omega arith) refl le
-        (λ o w1 b1 k1. tree_then seq frame out (h + 2) pa pi fin l i (di out (h + 2) pa pl.2.1.0) c (o ∷ (nil ∷ st)) (o ∷ (nil ∷ [])) st w1
-        (λ j. then (call_method files b (with_loop l frame) s.line o (codes "[]") (j ∷ []) no_block false) (λ u. choose (is_true u) (Done u) (then (run_it l frame t) (λ v. set_by_send files top b (with_loop l frame) s.line o set (j ∷ (v ∷ [])) v)))) high (omega arith) refl b1
-        (λ j w3 b3 k3. on seq frame c pi (j ∷ (o ∷ (nil ∷ st))) w3 (start l s) (TopN 1) (pi + 1) (o ∷ (j ∷ (o ∷ (nil ∷ st)))) w3 pl.2.1.1.0 refl
-        (on seq frame c (pi + 1) (o ∷ (j ∷ (o ∷ (nil ∷ st)))) w3 (start l s) (TopN 1) (pi + 1 + 1) (j ∷ (o ∷ (j ∷ (o ∷ (nil ∷ st))))) w3 pl.2.1.1.2.0 refl
-        (send_then l seq frame out (pi + 1 + 1) fin s.line (codes "[]") 1 (self_flag a) (j ∷ []) o (j ∷ (o ∷ (nil ∷ st))) (j ∷ (o ∷ (nil ∷ []))) st w3 c (λ u. choose (is_true u) (Done u) (then (run_it l frame t) (λ v. set_by_send files top b (with_loop l frame) s.line o set (j ∷ (v ∷ [])) v))) sd.of_first (self_bit a) refl pl.2.1.1.2.2.0 pl.2.1.1.2.2.1 refl b3
-        (λ u w2 b2 k2. or_ends (is_true u) l seq frame out h pr (start l s) 3 s.line set 2 (self_flag a) t (λ v. j ∷ (v ∷ [])) o (j ∷ (o ∷ (nil ∷ st))) (j ∷ (o ∷ (nil ∷ []))) st (u ∷ (j ∷ (o ∷ (u ∷ st)))) u w2 c BranchIf (is_true u) sd.of_first (self_bit a) (λ v. refl) pl.2.1.1.2.2.2 (omega (arith, high.tall)) refl high b2 (λ q. refl) (λ q v z. refl) (λ q. refl) (λ q. refl) (dt out (h + 3) (pr + 1 + 1 + 1) pl.2.1.1.2.2.2.2.2.2.0) refl k2) k3))) k1) k)
+      let pa = finish (p + 1) (shape l a) in let pi = finish pa (shape l i) in let pr = pi + 1 + 1 + 1 in let pv = finish (pr + 1 + 1 + 1) (shape l t) in let fin = pv + 1 + 1 + 1 + 1 + 1 + 1 in let set = codes "[]=" in
+      on seq frame c p st w (start l s) PutNil (p + 1) (nil ∷ st) w pl.0 refl
+      (tree_then seq frame out (h + 1) (p + 1) pa fin l a (da out (h + 1) (p + 1) pl.2.0) c (nil ∷ st) (nil ∷ []) st w
+      (λ o. then (run_it l frame i) (λ j. then (call_method files b (with_loop l frame) s.line o (codes "[]") (j ∷ []) no_block false) (λ u. choose (is_true u) (Done u) (then (run_it l frame t) (λ v. set_by_send files top b (with_loop l frame) s.line o set (j ∷ (v ∷ [])) v))))) high (omega arith) refl le
+      (λ o w1 b1 k1. tree_then seq frame out (h + 2) pa pi fin l i (di out (h + 2) pa pl.2.1.0) c (o ∷ (nil ∷ st)) (o ∷ (nil ∷ [])) st w1
+      (λ j. then (call_method files b (with_loop l frame) s.line o (codes "[]") (j ∷ []) no_block false) (λ u. choose (is_true u) (Done u) (then (run_it l frame t) (λ v. set_by_send files top b (with_loop l frame) s.line o set (j ∷ (v ∷ [])) v)))) high (omega arith) refl b1
+      (λ j w3 b3 k3. on seq frame c pi (j ∷ (o ∷ (nil ∷ st))) w3 (start l s) (TopN 1) (pi + 1) (o ∷ (j ∷ (o ∷ (nil ∷ st)))) w3 pl.2.1.1.0 refl
+      (on seq frame c (pi + 1) (o ∷ (j ∷ (o ∷ (nil ∷ st)))) w3 (start l s) (TopN 1) (pi + 1 + 1) (j ∷ (o ∷ (j ∷ (o ∷ (nil ∷ st))))) w3 pl.2.1.1.2.0 refl
+      (send_then l seq frame out (pi + 1 + 1) fin s.line (codes "[]") 1 (self_flag a) (j ∷ []) o (j ∷ (o ∷ (nil ∷ st))) (j ∷ (o ∷ (nil ∷ []))) st w3 c (λ u. choose (is_true u) (Done u) (then (run_it l frame t) (λ v. set_by_send files top b (with_loop l frame) s.line o set (j ∷ (v ∷ [])) v))) sd.of_first (self_bit a) refl pl.2.1.1.2.2.0 pl.2.1.1.2.2.1 refl b3
+      (λ u w2 b2 k2. or_ends (is_true u) l seq frame out h pr (start l s) 3 s.line set 2 (self_flag a) t (λ v. j ∷ (v ∷ [])) o (j ∷ (o ∷ (nil ∷ st))) (j ∷ (o ∷ (nil ∷ []))) st (u ∷ (j ∷ (o ∷ (u ∷ st)))) u w2 c BranchIf (is_true u) sd.of_first (self_bit a) (λ v. refl) pl.2.1.1.2.2.2 (omega (arith, high.tall)) refl high b2 (λ q. refl) (λ q v z. refl) (λ q. refl) (λ q. refl) (dt out (h + 3) (pr + 1 + 1 + 1) pl.2.1.1.2.2.2.2.2.2.0) refl k2) k3))) k1) k)
 
   form_and_index_ends : (a : Tree) (i : Tree) (t : Tree) (l : Where) (s : SourcePosition) (seq : Routine) (frame : Frame) (out : List CatchRow) (h p : ℕ) → StandsIn l frame → T l seq frame a → T l seq frame i → T l seq frame t → FindsForm seqs bodies l (and_index a i t) → Placed seq.body.code seq.body.rows out h p (form_shape l (and_index a i t) s)
       → D l seq frame out h p (finish p (form_shape l (and_index a i t) s)) (run_form files top b (and_index a i t) s (with_loop l frame))
   form_and_index_ends a i t l s seq frame out h p sd da di dt fs pl = λ c st w high le k.
-        let pa = finish (p + 1) (shape l a) in let pi = finish pa (shape l i) in let pr = pi + 1 + 1 + 1 in let pv = finish (pr + 1 + 1 + 1) (shape l t) in let fin = pv + 1 + 1 + 1 + 1 + 1 + 1 in let set = codes "[]=" in
-        on seq frame c p st w (start l s) PutNil (p + 1) (nil ∷ st) w pl.0 refl
-        (tree_then seq frame out (h + 1) (p + 1) pa fin l a (da out (h + 1) (p + 1) pl.2.0) c (nil ∷ st) (nil ∷ []) st w
-        (λ o. then (run_it l frame i) (λ j. then (call_method files b (with_loop l frame) s.line o (codes "[]") (j ∷ []) no_block false) (λ u. choose (is_true u) (then (run_it l frame t) (λ v. set_by_send files top b (with_loop l frame) s.line o set (j ∷ (v ∷ [])) v)) (Done u)))) high (omega arith) refl le
-        (λ o w1 b1 k1. tree_then seq frame out (h + 2) pa pi fin l i (di out (h + 2) pa pl.2.1.0) c (o ∷ (nil ∷ st)) (o ∷ (nil ∷ [])) st w1
-        (λ j. then (call_method files b (with_loop l frame) s.line o (codes "[]") (j ∷ []) no_block false) (λ u. choose (is_true u) (then (run_it l frame t) (λ v. set_by_send files top b (with_loop l frame) s.line o set (j ∷ (v ∷ [])) v)) (Done u))) high (omega arith) refl b1
-        (λ j w3 b3 k3. on seq frame c pi (j ∷ (o ∷ (nil ∷ st))) w3 (start l s) (TopN 1) (pi + 1) (o ∷ (j ∷ (o ∷ (nil ∷ st)))) w3 pl.2.1.1.0 refl
-        (on seq frame c (pi + 1) (o ∷ (j ∷ (o ∷ (nil ∷ st)))) w3 (start l s) (TopN 1) (pi + 1 + 1) (j ∷ (o ∷ (j ∷ (o ∷ (nil ∷ st))))) w3 pl.2.1.1.2.0 refl
-        (send_then l seq frame out (pi + 1 + 1) fin s.line (codes "[]") 1 (self_flag a) (j ∷ []) o (j ∷ (o ∷ (nil ∷ st))) (j ∷ (o ∷ (nil ∷ []))) st w3 c (λ u. choose (is_true u) (then (run_it l frame t) (λ v. set_by_send files top b (with_loop l frame) s.line o set (j ∷ (v ∷ [])) v)) (Done u)) sd.of_first (self_bit a) refl pl.2.1.1.2.2.0 pl.2.1.1.2.2.1 refl b3
-        (λ u w2 b2 k2. or_ends (not (is_true u)) l seq frame out h pr (start l s) 3 s.line set 2 (self_flag a) t (λ v. j ∷ (v ∷ [])) o (j ∷ (o ∷ (nil ∷ st))) (j ∷ (o ∷ (nil ∷ []))) st (u ∷ (j ∷ (o ∷ (u ∷ st)))) u w2 c BranchUnless (not (is_true u)) sd.of_first (self_bit a) (λ v. refl) pl.2.1.1.2.2.2 (omega (arith, high.tall)) refl high b2 (λ q. refl) (λ q v z. refl) (λ q. refl) (λ q. refl) (dt out (h + 3) (pr + 1 + 1 + 1) pl.2.1.1.2.2.2.2.2.2.0) refl (subst (λ y. A seq frame c fin st out y) (choose_not (is_true u) (then (run_it l frame t) (λ v. set_by_send files top b (with_loop l frame) s.line o set (j ∷ (v ∷ [])) v)) (Done u) w2) k2)) k3))) k1) k)
+      let pa = finish (p + 1) (shape l a) in let pi = finish pa (shape l i) in let pr = pi + 1 + 1 + 1 in let pv = finish (pr + 1 + 1 + 1) (shape l t) in let fin = pv + 1 + 1 + 1 + 1 + 1 + 1 in let set = codes "[]=" in
+      on seq frame c p st w (start l s) PutNil (p + 1) (nil ∷ st) w pl.0 refl
+      (tree_then seq frame out (h + 1) (p + 1) pa fin l a (da out (h + 1) (p + 1) pl.2.0) c (nil ∷ st) (nil ∷ []) st w
+      (λ o. then (run_it l frame i) (λ j. then (call_method files b (with_loop l frame) s.line o (codes "[]") (j ∷ []) no_block false) (λ u. choose (is_true u) (then (run_it l frame t) (λ v. set_by_send files top b (with_loop l frame) s.line o set (j ∷ (v ∷ [])) v)) (Done u)))) high (omega arith) refl le
+      (λ o w1 b1 k1. tree_then seq frame out (h + 2) pa pi fin l i (di out (h + 2) pa pl.2.1.0) c (o ∷ (nil ∷ st)) (o ∷ (nil ∷ [])) st w1
+      (λ j. then (call_method files b (with_loop l frame) s.line o (codes "[]") (j ∷ []) no_block false) (λ u. choose (is_true u) (then (run_it l frame t) (λ v. set_by_send files top b (with_loop l frame) s.line o set (j ∷ (v ∷ [])) v)) (Done u))) high (omega arith) refl b1
+      (λ j w3 b3 k3. on seq frame c pi (j ∷ (o ∷ (nil ∷ st))) w3 (start l s) (TopN 1) (pi + 1) (o ∷ (j ∷ (o ∷ (nil ∷ st)))) w3 pl.2.1.1.0 refl
+      (on seq frame c (pi + 1) (o ∷ (j ∷ (o ∷ (nil ∷ st)))) w3 (start l s) (TopN 1) (pi + 1 + 1) (j ∷ (o ∷ (j ∷ (o ∷ (nil ∷ st))))) w3 pl.2.1.1.2.0 refl
+      (send_then l seq frame out (pi + 1 + 1) fin s.line (codes "[]") 1 (self_flag a) (j ∷ []) o (j ∷ (o ∷ (nil ∷ st))) (j ∷ (o ∷ (nil ∷ []))) st w3 c (λ u. choose (is_true u) (then (run_it l frame t) (λ v. set_by_send files top b (with_loop l frame) s.line o set (j ∷ (v ∷ [])) v)) (Done u)) sd.of_first (self_bit a) refl pl.2.1.1.2.2.0 pl.2.1.1.2.2.1 refl b3
+      (λ u w2 b2 k2. or_ends (not (is_true u)) l seq frame out h pr (start l s) 3 s.line set 2 (self_flag a) t (λ v. j ∷ (v ∷ [])) o (j ∷ (o ∷ (nil ∷ st))) (j ∷ (o ∷ (nil ∷ []))) st (u ∷ (j ∷ (o ∷ (u ∷ st)))) u w2 c BranchUnless (not (is_true u)) sd.of_first (self_bit a) (λ v. refl) pl.2.1.1.2.2.2 (omega (arith, high.tall)) refl high b2 (λ q. refl) (λ q v z. refl) (λ q. refl) (λ q. refl) (dt out (h + 3) (pr + 1 + 1 + 1) pl.2.1.1.2.2.2.2.2.2.0) refl (subst (λ y. A seq frame c fin st out y) (choose_not (is_true u) (then (run_it l frame t) (λ v. set_by_send files top b (with_loop l frame) s.line o set (j ∷ (v ∷ [])) v)) (Done u) w2) k2)) k3))) k1) k)
 
   form_both_ends : (a : Tree) (e : Tree) (l : Where) (s : SourcePosition) (seq : Routine) (frame : Frame) (out : List CatchRow) (h p : ℕ) → StandsIn l frame → T l seq frame a → T l seq frame e → FindsForm seqs bodies l (both a e) → Placed seq.body.code seq.body.rows out h p (form_shape l (both a e) s)
       → D l seq frame out h p (finish p (form_shape l (both a e) s)) (run_form files top b (both a e) s (with_loop l frame))
   form_both_ends a e l s seq frame out h p sd da de fs pl = λ c st w high le k.
-        let p1 = finish p (shape l a) in let n = suc (size (shape l e)) in let fin = finish (p1 + 1 + 1 + 1) (shape l e) in
-        tree_then seq frame out (h + 0) p p1 fin l a (da out (h + 0) p pl.0) c st [] st w (λ v. choose (is_true v) (run_it l frame e) (Done v)) high (omega arith) refl le
-        (λ v z b1 k1. on seq frame c p1 (v ∷ st) z (own l s) Dup (p1 + 1) (v ∷ (v ∷ st)) z pl.1.0 refl
-        (short_ends l seq frame out (h + 0) (p1 + 1) n (own l s) fin (BranchUnless (p1 + 1 + 1 + n)) (run_it l frame e) c st v z (not (is_true v)) pl.1.2.0 refl (let g = finish_size (shape l e) (p1 + 1 + 1 + 1) in omega arith) pl.1.2.2.0
-        (de out (h + 0) (p1 + 1 + 1 + 1) pl.1.2.2.2.0) (plus_zero _ _ _ _ high) b1 (not (is_true v)) refl (subst (λ y. A seq frame c fin st out y) (choose_not (is_true v) (run_it l frame e) (Done v) z) k1))) k
+      let p1 = finish p (shape l a) in let n = suc (size (shape l e)) in let fin = finish (p1 + 1 + 1 + 1) (shape l e) in
+      tree_then seq frame out (h + 0) p p1 fin l a (da out (h + 0) p pl.0) c st [] st w (λ v. choose (is_true v) (run_it l frame e) (Done v)) high (omega arith) refl le
+      (λ v z b1 k1. on seq frame c p1 (v ∷ st) z (own l s) Dup (p1 + 1) (v ∷ (v ∷ st)) z pl.1.0 refl
+      (short_ends l seq frame out (h + 0) (p1 + 1) n (own l s) fin (BranchUnless (p1 + 1 + 1 + n)) (run_it l frame e) c st v z (not (is_true v)) pl.1.2.0 refl (let g = finish_size (shape l e) (p1 + 1 + 1 + 1) in omega arith) pl.1.2.2.0
+      (de out (h + 0) (p1 + 1 + 1 + 1) pl.1.2.2.2.0) (plus_zero _ _ _ _ high) b1 (not (is_true v)) refl (subst (λ y. A seq frame c fin st out y) (choose_not (is_true v) (run_it l frame e) (Done v) z) k1))) k
 
   form_either_ends : (a : Tree) (e : Tree) (l : Where) (s : SourcePosition) (seq : Routine) (frame : Frame) (out : List CatchRow) (h p : ℕ) → StandsIn l frame → T l seq frame a → T l seq frame e → FindsForm seqs bodies l (either a e) → Placed seq.body.code seq.body.rows out h p (form_shape l (either a e) s)
       → D l seq frame out h p (finish p (form_shape l (either a e) s)) (run_form files top b (either a e) s (with_loop l frame))
   form_either_ends a e l s seq frame out h p sd da de fs pl = λ c st w high le k.
-        let p1 = finish p (shape l a) in let n = suc (size (shape l e)) in let fin = finish (p1 + 1 + 1 + 1) (shape l e) in
-        tree_then seq frame out (h + 0) p p1 fin l a (da out (h + 0) p pl.0) c st [] st w (λ v. choose (is_true v) (Done v) (run_it l frame e)) high (omega arith) refl le
-        (λ v z b1 k1. on seq frame c p1 (v ∷ st) z (own l s) Dup (p1 + 1) (v ∷ (v ∷ st)) z pl.1.0 refl
-        (short_ends l seq frame out (h + 0) (p1 + 1) n (own l s) fin (BranchIf (p1 + 1 + 1 + n)) (run_it l frame e) c st v z (is_true v) pl.1.2.0 refl (let g = finish_size (shape l e) (p1 + 1 + 1 + 1) in omega arith) pl.1.2.2.0
-        (de out (h + 0) (p1 + 1 + 1 + 1) pl.1.2.2.2.0) (plus_zero _ _ _ _ high) b1 (is_true v) refl k1)) k
+      let p1 = finish p (shape l a) in let n = suc (size (shape l e)) in let fin = finish (p1 + 1 + 1 + 1) (shape l e) in
+      tree_then seq frame out (h + 0) p p1 fin l a (da out (h + 0) p pl.0) c st [] st w (λ v. choose (is_true v) (Done v) (run_it l frame e)) high (omega arith) refl le
+      (λ v z b1 k1. on seq frame c p1 (v ∷ st) z (own l s) Dup (p1 + 1) (v ∷ (v ∷ st)) z pl.1.0 refl
+      (short_ends l seq frame out (h + 0) (p1 + 1) n (own l s) fin (BranchIf (p1 + 1 + 1 + n)) (run_it l frame e) c st v z (is_true v) pl.1.2.0 refl (let g = finish_size (shape l e) (p1 + 1 + 1 + 1) in omega arith) pl.1.2.2.0
+      (de out (h + 0) (p1 + 1 + 1 + 1) pl.1.2.2.2.0) (plus_zero _ _ _ _ high) b1 (is_true v) refl k1)) k
 
   form_negated_ends : (a : Tree) (l : Where) (s : SourcePosition) (seq : Routine) (frame : Frame) (out : List CatchRow) (h p : ℕ) → StandsIn l frame → T l seq frame a → FindsForm seqs bodies l (negated a) → Placed seq.body.code seq.body.rows out h p (form_shape l (negated a) s)
       → D l seq frame out h p (finish p (form_shape l (negated a) s)) (run_form files top b (negated a) s (with_loop l frame))
   form_negated_ends a l s seq frame out h p sd da fs pl = λ c st w high le k.
-        let p1 = finish p (shape l a) in
-        tree_then seq frame out (h + 0) p p1 (p1 + 1) l a (da out (h + 0) p pl.0) c st [] st w (λ v. call_method files b (with_loop l frame) s.line v (codes "!") [] no_block false) high (omega arith) refl le
-        (λ v z b1 k1. plain_ends l seq frame out p1 s.line (codes "!") 0 (self_flag a) [] v st z c sd.of_first (self_bit a) refl pl.1.0 pl.1.1 k1) k
+      let p1 = finish p (shape l a) in
+      tree_then seq frame out (h + 0) p p1 (p1 + 1) l a (da out (h + 0) p pl.0) c st [] st w (λ v. call_method files b (with_loop l frame) s.line v (codes "!") [] no_block false) high (omega arith) refl le
+      (λ v z b1 k1. plain_ends l seq frame out p1 s.line (codes "!") 0 (self_flag a) [] v st z c sd.of_first (self_bit a) refl pl.1.0 pl.1.1 k1) k
 
   form_while_loop_first_ends : (a : Tree) (e : Tree) (u : Bool) (l : Where) (s : SourcePosition) (seq : Routine) (frame : Frame) (out : List CatchRow) (h p : ℕ) → StandsIn l frame → TL l seq frame a → T l seq frame e → FindsForm seqs bodies l (while_loop a e u true) → Placed seq.body.code seq.body.rows out h p (form_shape l (while_loop a e u true) s)
       → D l seq frame out h p (finish p (form_shape l (while_loop a e u true) s)) (run_form files top b (while_loop a e u true) s (with_loop l frame))
   form_while_loop_first_ends a e u l s seq frame out h p sd da de fs pl = λ c st w high le k.
-        let pn = finish p (shape (looped l) a) in let pc = finish (pn + 1) (shape l e) in let n = size (shape (looped l) a) + 1 + size (shape l e) in
-        let g1 = finish_size (shape (looped l) a) p in let g2 = finish_size (shape l e) (pn + 1) in
-        da _ h p pl.0.0 c st w high le
-        (turn_ends files b seqs bodies top l.clause l.sight.scopes seq frame out h p pn pc (size (shape l e) + 3) (own l s) (own l s) (own l s) (pc - n) u (run_it l frame e) (run_it (looped l) frame a) pl.1.0 pl.1.1 pl.1.2.1.0 pl.1.2.1.1 (omega arith) (omega arith) pl.1.2.1.2.0 (omega arith)
-        (known.trees l.sight.scopes frame (with_loop l frame) refl e) (known.trees l.sight.scopes frame (with_loop (looped l) frame) refl a) (da _ h p pl.0.0) (λ c1 st1 w1 high1. de out (h + 0) (pn + 1) pl.1.2.0 c1 st1 w1 (plus_zero _ _ _ _ high1)) c st high
-        top (loop top u (run_it l frame e) (run_it (looped l) frame a))
-        (λ w1 b1 k1. turns_run files b seqs bodies top l.clause l.sight.scopes seq frame out h p pn pc (size (shape l e) + 3) (own l s) (own l s) (own l s) (pc - n) u (run_it l frame e) (run_it (looped l) frame a) pl.1.0 pl.1.1 pl.1.2.1.0 pl.1.2.1.1 (omega arith) (omega arith) pl.1.2.1.2.0 (omega arith)
-        (known.trees l.sight.scopes frame (with_loop l frame) refl e) (known.trees l.sight.scopes frame (with_loop (looped l) frame) refl a) (da _ h p pl.0.0) (λ c1 st1 w2 high1. de out (h + 0) (pn + 1) pl.1.2.0 c1 st1 w2 (plus_zero _ _ _ _ high1)) c st high
-        top top w1 (omega arith) (omega arith) b1 k1)
-        (run_it (looped l) frame a w) (known.trees l.sight.scopes frame (with_loop (looped l) frame) refl a top w (omega arith) le) k)
+      let pn = finish p (shape (looped l) a) in let pc = finish (pn + 1) (shape l e) in let n = size (shape (looped l) a) + 1 + size (shape l e) in
+      let g1 = finish_size (shape (looped l) a) p in let g2 = finish_size (shape l e) (pn + 1) in
+      da _ h p pl.0.0 c st w high le
+      (turn_ends files b seqs bodies top l.clause l.sight.scopes seq frame out h p pn pc (size (shape l e) + 3) (own l s) (own l s) (own l s) (pc - n) u (run_it l frame e) (run_it (looped l) frame a) pl.1.0 pl.1.1 pl.1.2.1.0 pl.1.2.1.1 (omega arith) (omega arith) pl.1.2.1.2.0 (omega arith)
+      (known.trees l.sight.scopes frame (with_loop l frame) refl e) (known.trees l.sight.scopes frame (with_loop (looped l) frame) refl a) (da _ h p pl.0.0) (λ c1 st1 w1 high1. de out (h + 0) (pn + 1) pl.1.2.0 c1 st1 w1 (plus_zero _ _ _ _ high1)) c st high
+      top (loop top u (run_it l frame e) (run_it (looped l) frame a))
+      (λ w1 b1 k1. turns_run files b seqs bodies top l.clause l.sight.scopes seq frame out h p pn pc (size (shape l e) + 3) (own l s) (own l s) (own l s) (pc - n) u (run_it l frame e) (run_it (looped l) frame a) pl.1.0 pl.1.1 pl.1.2.1.0 pl.1.2.1.1 (omega arith) (omega arith) pl.1.2.1.2.0 (omega arith)
+      (known.trees l.sight.scopes frame (with_loop l frame) refl e) (known.trees l.sight.scopes frame (with_loop (looped l) frame) refl a) (da _ h p pl.0.0) (λ c1 st1 w2 high1. de out (h + 0) (pn + 1) pl.1.2.0 c1 st1 w2 (plus_zero _ _ _ _ high1)) c st high
+      top top w1 (omega arith) (omega arith) b1 k1)
+      (run_it (looped l) frame a w) (known.trees l.sight.scopes frame (with_loop (looped l) frame) refl a top w (omega arith) le) k)
 
   form_while_loop_later_ends : (a : Tree) (e : Tree) (u : Bool) (l : Where) (s : SourcePosition) (seq : Routine) (frame : Frame) (out : List CatchRow) (h p : ℕ) → StandsIn l frame → TL l seq frame a → T l seq frame e → FindsForm seqs bodies l (while_loop a e u false) → Placed seq.body.code seq.body.rows out h p (form_shape l (while_loop a e u false) s)
       → D l seq frame out h p (finish p (form_shape l (while_loop a e u false) s)) (run_form files top b (while_loop a e u false) s (with_loop l frame))
   form_while_loop_later_ends a e u l s seq frame out h p sd da de fs pl = λ c st w high le k.
-        let pn = finish (p + 1) (shape (looped l) a) in let pc = finish (pn + 1) (shape l e) in let n = size (shape (looped l) a) + 1 + size (shape l e) in
-        let g1 = finish_size (shape (looped l) a) (p + 1) in let g2 = finish_size (shape l e) (pn + 1) in
-        jump_to seq frame c p (size (shape (looped l) a) + 1) (own l s) (pn + 1) st w pl.0 (omega arith)
-        (turns_run files b seqs bodies top l.clause l.sight.scopes seq frame out h (p + 1) pn pc (size (shape l e) + 3) (own l s) (own l s) (own l s) (pc - n) u (run_it l frame e) (run_it (looped l) frame a) pl.2.1.0 pl.2.1.1 pl.2.1.2.1.0 pl.2.1.2.1.1 (omega arith) (omega arith) pl.2.1.2.1.2.0 (omega arith)
-        (known.trees l.sight.scopes frame (with_loop l frame) refl e) (known.trees l.sight.scopes frame (with_loop (looped l) frame) refl a) (da _ h (p + 1) pl.2.0.0) (λ c1 st1 w2 high1. de out (h + 0) (pn + 1) pl.2.1.2.0 c1 st1 w2 (plus_zero _ _ _ _ high1)) c st high
-        top top w (omega arith) (omega arith) le k)
+      let pn = finish (p + 1) (shape (looped l) a) in let pc = finish (pn + 1) (shape l e) in let n = size (shape (looped l) a) + 1 + size (shape l e) in
+      let g1 = finish_size (shape (looped l) a) (p + 1) in let g2 = finish_size (shape l e) (pn + 1) in
+      jump_to seq frame c p (size (shape (looped l) a) + 1) (own l s) (pn + 1) st w pl.0 (omega arith)
+      (turns_run files b seqs bodies top l.clause l.sight.scopes seq frame out h (p + 1) pn pc (size (shape l e) + 3) (own l s) (own l s) (own l s) (pc - n) u (run_it l frame e) (run_it (looped l) frame a) pl.2.1.0 pl.2.1.1 pl.2.1.2.1.0 pl.2.1.2.1.1 (omega arith) (omega arith) pl.2.1.2.1.2.0 (omega arith)
+      (known.trees l.sight.scopes frame (with_loop l frame) refl e) (known.trees l.sight.scopes frame (with_loop (looped l) frame) refl a) (da _ h (p + 1) pl.2.0.0) (λ c1 st1 w2 high1. de out (h + 0) (pn + 1) pl.2.1.2.0 c1 st1 w2 (plus_zero _ _ _ _ high1)) c st high
+      top top w (omega arith) (omega arith) le k)
 
   abbrev TS : Where → Routine → Frame → Trees → Type 0
   TS l seq frame no_more = ⊤

@@ -7,4 +7,4 @@ pub mod Leave
 pub mod Clauses
 pub mod Does
 pub mod Keeps
-pub mod Bodies
+pub mod BodyRuns

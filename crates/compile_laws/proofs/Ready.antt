@@ -1,10 +1,8 @@
 -- What holds of the world before each part of a body: so many turns at most, and the environments outward have their names.
-use Rattle.std.proofs.Common.{◌≡◌, ℕ, suc, ◌≤◌, ◌<◌, arith, List, [], ◌∷◌, length, Option, Some, None, sym, ◌∙◌}
-use Rattle.std.specs.Prelude.{slice_get}
+use Rattle.std.proofs.Common.{ℕ, ◌≤◌, arith, List}
 use Rattle.ruby_tree.specs.Names.{Bytes}
-use Rattle.ruby_meaning.specs.World.{Environment, World, Frame, Run, world_of}
-use Rattle.ruby_meaning.specs.Laws.{EnvironmentsStay, Leads}
-use Rattle.code_meaning.specs.Slots.{HaveNames, HasScopes}
+use Rattle.ruby_meaning.specs.World.{World, Frame, Run, world_of}
+use Rattle.code_meaning.specs.Slots.{HasScopes}
 
 pub record Ready (scopes : List (List Bytes)) (frame : Frame) (n : ℕ) (w : World) : Type 0 where
   pub turns : w.turns ≤ n

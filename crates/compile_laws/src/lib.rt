@@ -2,3 +2,4 @@
 #![tactic(auto)]
 
 pub mod alike;
+pub mod bodies;

@@ -1,5 +1,5 @@
 -- The sequence of a body, run from its entry, comes to what the body means.
-use Rattle.std.proofs.Common.{zero, ◌≡◌, ℕ, suc, ◌+◌, ◌≤◌, Bool, true, false, refl, sym, subst, ap, ◌∙◌, arith, List, [], ◌∷◌}
+use Rattle.std.proofs.Common.{zero, ◌≡◌, ℕ, suc, ◌+◌, Bool, true, false, refl, sym, subst, ap, ◌∙◌, arith, List, [], ◌∷◌}
 use Rattle.ruby_tree.specs.Names.{Bytes}
 use Rattle.ruby_tree.specs.Tree.{SourcePosition, Tree, at, Form, body, Params, no_param, required, optional, rest_param, block_param}
 use Rattle.iseq_types.specs.declared.instructions.Instr.TheVariants.{Leave}
@@ -14,7 +14,9 @@ use Rattle.ruby_meaning.proofs.Fixed.{evaluation_is_fixed}
 use Rattle.code_meaning.specs.Code.{Routine, Shape, done, op, part, finish, Placed}
 use Rattle.code_meaning.specs.Slots.{HasScopes}
 use Rattle.code_meaning.specs.Machine.{goes, Runs}
+use Rattle.code_meaning.specs.Frames.{running, returning, Turns}
 use Rattle.code_meaning.proofs.Placing.{placed}
+use Rattle.code_meaning.proofs.Frames.{turns_keep}
 use Rattle.compile_table.specs.Shapes as table
 use Rattle.compile_table.specs.Shapes.{Where, shape, form_shape, params_shape}
 use Rattle.compile_laws.specs.Finds.{body_routine, Finds, FindsParams, FindsBodyForm, FindsBody, StandsIn, entry, start_in, start_of}
@@ -89,3 +91,9 @@ module _ (files : Files) (seqs : ℕ → Routine) (bodies : ℕ → Tree) where
   pub body_runs : (t : Tree) (l : Where) (kind : SeqKind) (name : Bytes) (frame : Frame) (w : World) → l.loop ≡ false → l.clause ≡ false → StandsIn l frame → HasScopes l.sight.scopes frame w → FindsBody seqs bodies l t → frame.in_loop ≡ false
       → Runs files (evaluate files) seqs bodies (body_routine l kind name t) frame (start_of l t frame.given) [] w (evaluate files t frame w)
   body_runs (at s f) l kind name frame w no_loop plain sd names fs out = form_runs f l kind name s frame w no_loop plain sd names fs out
+
+  -- a machine that begins with a body, and comes to an outcome, comes to what the body means
+  pub machine_ends : (t : Tree) (l : Where) (kind : SeqKind) (name : Bytes) (frame : Frame) (w : World) (o : Outcome) → l.loop ≡ false → l.clause ≡ false → StandsIn l frame → HasScopes l.sight.scopes frame w → FindsBody seqs bodies l t → frame.in_loop ≡ false
+      → Turns files (evaluate files) seqs bodies (running (body_routine l kind name t) frame (start_of l t frame.given) [] w []) (returning o []) → o ≡ evaluate files t frame w
+  machine_ends t l kind name frame w o no_loop plain sd names fs out ts =
+      turns_keep files (evaluate files) seqs bodies ts (evaluate files t frame w) (evaluate files t frame w, body_runs t l kind name frame w no_loop plain sd names fs out, refl)
