@@ -9,3 +9,5 @@ pub mod Does
 pub mod RowsOrder
 pub mod RowsTrees
 pub mod RisingRow
+pub mod Keeps
+pub mod BodyRuns
