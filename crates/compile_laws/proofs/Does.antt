@@ -8,7 +8,6 @@ use Rattle.iseq_types.specs.declared.instructions.Instr.{Instr}
 use Rattle.iseq_types.specs.declared.instructions.Instr.TheVariants.{Pop, Dup, TopN, SetN, AdjustStack, PutNil, PutSelf, PutObject, PutString, GetInstanceVariable, GetGlobal, OptGetConstantPath, NewArray, NewHash, NewRange, ConcatStrings, ObjToString, AnyToString, Send, InvokeSuper, InvokeBlock, DefineMethod, DefineClass, CheckMatch, Jump, BranchIf, BranchUnless, BranchNil, Throw, Leave, ExpandArray}
 use Rattle.iseq_types.specs.declared.instructions.Literal.TheVariants.{True, False, Int, Sym}
 use Rattle.iseq_types.specs.declared.sequences.CatchRow.{CatchRow}
-use Rattle.iseq_types.specs.declared.sequences.SeqKind.{SeqKind}
 use Rattle.iseq_types.specs.declared.sequences.SeqKind.TheVariants as kinds
 use Rattle.ruby_meaning.specs.Value.{Value, nil, yes, no, number, symbol_named, object, elements, Source, written, class_or_module, Object}
 use Rattle.ruby_meaning.specs.Numbers.{object_class, type_error, frozen_error, name_error, closed_classes}
@@ -27,7 +26,7 @@ use Rattle.ruby_meaning.specs.Definitions.{read_local, set_local, read_global, f
 use Rattle.ruby_meaning.specs.ClassBodies.{class_alone, module_alone, same_class, class_frame, open_class, make_class, refused, open_found, class_or_new, module_or_new, if_same_superclass, below_base, with_base, class_below, class_named, module_of_name}
 use Rattle.ruby_meaning.specs.Levels.{Scopes, GoalHeld, GoalsHeld, NameHeld, is_held, level_of, slot_of}
 use Rattle.ruby_meaning.specs.Parts.{parts_of, piece_found, piece_of, make_joined, make_array, make_hash, make_range, of_values, leave_home, leave_block, leave_loop, given_value, match_found, match_class, handling, in_sequence}
-use Rattle.ruby_meaning.specs.Evaluation.{run_patterns, run_whens, run_any, run_tests, unless_nil, run_pairs, run_pieces, set_by_send, loop, set_exception, with_block, send_with, super_with, super_to, run, run_form, run_all, run_trees, run_other, run_last, run_receiver, run_given_value, run_clauses, run_clause, run_classes, run_defaults}
+use Rattle.ruby_meaning.specs.Evaluation.{run_patterns, run_whens, run_any, run_tests, unless_nil, run_pairs, run_pieces, set_by_send, loop, set_exception, with_block, send_with, super_with, super_to, run, run_form, run_all, run_trees, run_other, run_last, run_receiver, run_given_value, run_clauses, run_clause, run_classes}
 use Rattle.code_meaning.specs.Code.{at_line, Routine, rows_at, Shape, done, op, ahead, part, size, Placed, finish}
 use Rattle.code_meaning.specs.Slots.{read_slot, set_slot, HaveNames}
 use Rattle.code_meaning.specs.Machine.{first_values, is_nil, pairs_of, Step, goes, pends, answer, drops, branch, with_value, with_args, with_top, call_answer, is_valued, is_bare, literal_given, value_given, sent, super_to_method, super_sent, act, step, rescue_frame, ensure_frame, entered_in, entered_at, Runs, Follows}
@@ -36,7 +35,7 @@ use Rattle.code_meaning.proofs.Placing.{placed}
 use Rattle.compile_table.specs.Shapes as table
 use Rattle.compile_table.specs.Shapes.{Where, looped, line_or, line_at, own, start, count, is_self_form, self_flag, receiver_flag, value_flag, bare_flag, plain_send, number_of, with_literal, path_start, throw_by, named, in_rescue, in_ensure, get_local, shape, form_shape, count_pairs, pairs_shape, params_shape, all_shape, rest_shape, args_shape, path_shape, receiver_shape, value_shape, other_shape, last_shape, values_shape, clauses_shape, clause_shape, classes_shape, bodies_shape}
 use Rattle.compile_laws.specs.Likeness.{with_flag}
-use Rattle.compile_laws.specs.Finds.{part_routine, body_routine, FindsBlock, Finds, FindsForm, AllHeld, FindsPairs, FindsPieces, FindsWhens, FindsTrees, FindsOther, FindsRescue, FindsRescueForm, FindsEnsure, FindsEnsureForm, FindsClauses, FindsParams, StandsIn, entry}
+use Rattle.compile_laws.specs.Finds.{part_routine, FindsBlock, Finds, FindsForm, AllHeld, FindsPairs, FindsPieces, FindsWhens, FindsTrees, FindsOther, FindsRescue, FindsRescueForm, FindsEnsure, FindsEnsureForm, FindsClauses, StandsIn}
 use Rattle.compile_laws.proofs.AlikeCalls.{raising_same, no_method_same, range_same, path_same, around_same, goal_same, method_defined_same, open_same, class_named_same, class_below_same, module_same, home_same, leave_same, given_same, given_block_same, call_same, super_same}
 use Rattle.compile_laws.proofs.After.{deeper_pending, leap_ahead, Pending, After, here, go, pend, answers, after_then}
 use Rattle.compile_laws.proofs.Ready.{Ready, KeepsReady}
@@ -1561,38 +1560,3 @@ module _ (files : Files) (b : Tree → Frame → Run) (seqs : ℕ → Routine) (
     whens_all : (ws : Whens) (l : Where) (seq : Routine) (frame : Frame) → StandsIn l frame → FindsWhens seqs bodies l ws → TW l seq frame ws
     whens_all no_when l seq frame sd fs = tt
     whens_all (when ts t ws) l seq frame sd fs = (trees_all ts l seq frame sd fs.0, λ out h p pl. tree_does t l seq frame out h p sd fs.1 pl, whens_all ws l seq frame sd fs.2)
-
-  entry_zero : (l : Where) (ps : Params) (p : ℕ) → entry l p ps zero ≡ p
-  entry_zero l no_param p = refl
-  entry_zero l (required x ps) p = entry_zero l ps p
-  entry_zero l (optional x t ps) p = refl
-  entry_zero l (rest_param x ps) p = entry_zero l ps p
-  entry_zero l (block_param x ps) p = entry_zero l ps p
-
-  -- from the entry on, the parameters that were left out, and then the body
-  params_does : (ps : Params) (l : Where) (seq : Routine) (frame : Frame) (p : ℕ) (s : Shape) (k : ℕ) (c : Outcome) (w : World) (next : Run) → l.clause ≡ false → StandsIn l frame → FindsParams seqs bodies l ps → Placed seq.body.code seq.body.rows [] 0 p (params_shape l ps s) → G l frame w
-      → c ≡ run_defaults files top b ps (with_loop l frame) k next w → ((q : ℕ) (z : World) → Placed seq.body.code seq.body.rows [] 0 q s → G l frame z → c ≡ next z → R seq frame c q [] z) → R seq frame c (entry l p ps k) [] w
-  params_does no_param l seq frame p s k c w next out sd fs pl le e g = g p w pl le e
-  params_does (required x ps) l seq frame p s k c w next out sd fs pl le e g = params_does ps l seq frame p s k c w next out sd fs pl le e g
-  params_does (optional x t ps) l seq frame p s zero c w next out sd fs pl le e g =
-      let q = finish p (shape l t) in
-      tree_does t l seq frame [] (0 + 0) p sd fs.1 pl.0 c [] w (record { tall = refl; bottom = λ y. absurd (let r : true ≡ false = sym y ∙ out in cc r) }) le
-      (whole_then files b seqs bodies seq frame c q [] (run_it l frame t w) (λ v. changing (set_local (with_loop l frame) x v) (run_defaults files top b ps (with_loop l frame) zero next)) e
-      (λ v z eo e1. let b1 : G l frame z = subst (λ o. G l frame (world_of o)) eo (keeps l frame t w le) in
-      on seq frame c q (v ∷ []) z l.first (table.set_local l x) (q + 1) [] (set_local frame x v z) pl.1.0 (ap (λ y. goes (q + 1) [] y) (known.sets l.sight.scopes frame top x v z b1 fs.0))
-      (subst (λ y. R seq frame c y [] (set_local frame x v z)) (entry_zero l ps (q + 1))
-      (params_does ps l seq frame (q + 1) s zero c (set_local frame x v z) next out sd fs.2 pl.1.2 (known.locals l.sight.scopes frame top x v z b1) e1 g))))
-  params_does (optional x t ps) l seq frame p s (suc k) c w next out sd fs pl le e g = params_does ps l seq frame (finish p (shape l t) + 1) s k c w next out sd fs.2 pl.1.2 le e g
-  params_does (rest_param x ps) l seq frame p s k c w next out sd fs pl le e g = params_does ps l seq frame p s k c w next out sd fs pl le e g
-  params_does (block_param x ps) l seq frame p s k c w next out sd fs pl le e g = params_does ps l seq frame p s k c w next out sd fs pl le e g
-
-  -- The sequence of a body, run from its entry, gives what the body means.
-  pub body_does : (ps : Params) (t : Tree) (s : SourcePosition) (l : Where) (kind : SeqKind) (name : Bytes) (frame : Frame) (w : World) → l.clause ≡ false → StandsIn l frame → FindsParams seqs bodies l ps → Finds seqs bodies l t → G l frame w
-      → Runs files b seqs bodies (body_routine l kind name (at s (body ps t))) frame (entry l 0 ps frame.given) [] w (run files top b (at s (body ps t)) (with_loop l frame) w)
-  body_does ps t s l kind name frame w out sd fp fs le =
-      let seq : Routine = body_routine l kind name (at s (body ps t)) in let c : Outcome = run files top b (at s (body ps t)) (with_loop l frame) w in
-      params_does ps l seq frame 0 (part 0 (shape l t) (op l.first Leave done)) frame.given c w (run_it l frame t) out sd fp (placed (form_shape l (body ps t) s) 0) le refl
-      (λ q z pl b1 e. let p1 = finish q (shape l t) in
-      tree_does t l seq frame [] (0 + 0) q sd fs pl.0 c [] z (record { tall = refl; bottom = λ y. absurd (let r : true ≡ false = sym y ∙ out in cc r) }) b1
-      (whole_then files b seqs bodies seq frame c p1 [] (run_it l frame t z) Done (e ∙ then_done (run_it l frame t z))
-      (λ v y eo e1. left_with files b seqs bodies seq frame c p1 (v ∷ []) y (Done v y) (here files b seqs bodies seq frame c p1 (v ∷ []) y l.first Leave pl.1.0) e1)))
