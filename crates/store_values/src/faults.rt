@@ -1,0 +1,34 @@
+//! Why a store makes nothing more.
+ghost use Rattle.std.specs.Prelude.{◌≡◌};
+ghost use Rattle.store_values.specs.declared.faults.StoreFault.TheVariants as fault;
+
+use std::alloc::{AllocError, AllocFailed};
+
+/// The cells would pass the limit.
+#[derive(Clone, Copy, Debug, PartialEq, Eq, Drop)]
+pub struct Full;
+
+/// Why a store makes nothing more.
+#[derive(Clone, Copy, Debug, PartialEq, Eq, Drop)]
+pub enum StoreFault {
+    /// The cells would pass the limit, and the store is as before.
+    Full(Full),
+    /// There was not memory enough.
+    NoMemory,
+}
+
+impl From<AllocError> for StoreFault {
+    ghost from_gives = { λ _ given. given ≡ fault.NoMemory };
+
+    fn from(_: AllocError) -> Self {
+        StoreFault::NoMemory
+    }
+}
+
+impl<T: Drop> From<AllocFailed<T>> for StoreFault {
+    ghost from_gives = { λ _ given. given ≡ fault.NoMemory };
+
+    fn from(_: AllocFailed<T>) -> Self {
+        StoreFault::NoMemory
+    }
+}
