@@ -1,5 +1,5 @@
 -- What a call that takes cells answers.
-use Rattle.std.specs.Prelude.{◌≡◌, ℕ, ◌+◌, ◌<◌, ◌≤◌, Option, Some, None, Result, Ok, Err}
+use Rattle.std.specs.Prelude.{◌≡◌, ℕ, ◌+◌, ◌<◌, ◌≤◌, Bool, true, false, Option, Some, None, Result, Ok, Err}
 use Rattle.ruby_meaning.specs.Store.{cell_limit}
 use Rattle.store_values.specs.declared.faults.StoreFault.{StoreFault}
 use Rattle.store_values.specs.declared.values.Value.{Value}
@@ -27,3 +27,8 @@ IsFull fault.NoMemory = ⊥
 abbrev pub or_nil : Option Value → Value
 or_nil None = value.Nil
 or_nil (Some v) = v
+
+-- what a change costs: nothing where there is nothing to change
+abbrev pub cost_if : Bool → ℕ → ℕ
+cost_if true n = n
+cost_if false n = 0

@@ -1,9 +1,8 @@
 -- The part of the definition's world that a store holds: its objects, seen through the table of names. `bodies` says what a row of a method
 -- runs.
-use Rattle.std.specs.Prelude.{ℕ, zero, suc, pos, false, List, [], map, reverse as reversed, Some, None, slice_get}
+use Rattle.std.specs.Prelude.{ℕ, zero, suc, pos, Bool, true, false, List, [], map, reverse as reversed, Some, None, slice_get}
 use Rattle.std.specs.Option.{option_map, unwrap_or}
 use Rattle.ruby_tree.specs.Names.{Bytes, Texts}
-use Rattle.ruby_tree.specs.declared.names.Name.{Name}
 use Rattle.ruby_meaning.specs.Value as meant
 use Rattle.ruby_meaning.specs.Value.{MethodBody, MethodRow}
 use Rattle.ruby_meaning.specs.Store.{no_class, truth_value}
@@ -30,14 +29,20 @@ value_of texts (value.Sym name) = meant.symbol_named (text_of texts name.number)
 value_of texts (value.Class c) = meant.object c.number
 value_of texts (value.Object o) = meant.object o.number
 
-abbrev pub bound : Texts → Name × Value → Bytes × meant.Value
-bound texts b = (text_of texts b.0.number, value_of texts b.1)
-
 abbrev pub bound_number : Texts → ℕ × Value → Bytes × meant.Value
 bound_number texts b = (text_of texts b.0, value_of texts b.1)
 
 abbrev pub pair_of : Texts → Value × Value → meant.Value × meant.Value
 pair_of texts p = (value_of texts p.0, value_of texts p.1)
+
+abbrev pub is_elements : meant.Kind → Bool
+is_elements (meant.string f) = false
+is_elements (meant.elements vs) = true
+is_elements (meant.table ps d) = false
+is_elements (meant.span a b e) = false
+is_elements (meant.closed k) = false
+is_elements (meant.plain c) = false
+is_elements (meant.class_or_module c) = false
 
 -- what stands at a place, or else another thing
 abbrev pub at_or : {A B : Type 0} → (A → B) → List A → ℕ → B → B
@@ -75,7 +80,7 @@ module _ (bodies : own.MethodRow → MethodBody) where
   abbrev pub object_of : Store → Object → meant.Object
   object_of s o = record {
     kind = kind_of s o.kind;
-    variables = from_one (λ bs. map (bound (texts_of s.names)) bs.items) s.variables.items o.variables [];
+    variables = from_one (λ m. map (bound_number (texts_of s.names)) m.values.entries) s.variables.items o.variables [];
     frozen = o.frozen;
     thrown_at = from_one (λ t. Some (text_of (texts_of s.names) t.path.number, t.line)) s.thrown.items o.thrown None;
   }

@@ -1,7 +1,10 @@
 //! Arrays.
 ghost use Rattle.std.specs.Prelude.{◌≡◌, length};
-ghost use Rattle.ruby_meaning.specs.Store.{array_cells};
-ghost use Rattle.ruby_store.specs.Cells.{Takes, OnFull};
+ghost use Rattle.ruby_meaning.specs.Store.{array_cells, kind_at};
+ghost use Rattle.ruby_meaning.specs.Value.{MethodBody};
+ghost use Rattle.store_values.specs.declared.rows.MethodRow.{MethodRow};
+ghost use Rattle.ruby_store.specs.Cells.{Takes, OnFull, cost_if};
+ghost use Rattle.ruby_store.specs.Model.{objects_of, is_elements};
 
 use crate::object_parts::ObjectKind;
 use crate::{ObjectId, Store, StoreFault, Value};
@@ -40,8 +43,15 @@ impl Store {
         &[]
     }
 
+    /// Whether an Array has this number.
+    fn is_array(&self, id: ObjectId) -> bool
+        ensures { (bodies : MethodRow → MethodBody) → result ≡ is_elements (kind_at (objects_of bodies self.now) id.number) }
+    {
+        self.kind_at(id.number).is_array()
+    }
+
     fn elements_mut(&mut self, id: ObjectId) -> Option<&mut Elements> {
-        match self.kind(id) {
+        match self.kind_at(id.number) {
             ObjectKind::Array(place) => self.arrays.get_mut(place),
             _ => None,
         }
@@ -55,10 +65,10 @@ impl Store {
         place: usize,
         value: Value,
     ) -> Result<(), StoreFault>
-        ensures cells { Takes self.old.cells (1) result self.new.cells }
+        ensures cells { (bodies : MethodRow → MethodBody) → Takes self.old.cells (cost_if (is_elements (kind_at (objects_of bodies self.old) id.number)) (1)) result self.new.cells }
         ensures full { OnFull result (self.new ≡ self.old) }
     {
-        let cells = self.charged(1)?;
+        let cells = self.charged(if self.is_array(id) { 1 } else { 0 })?;
         if let Some(elements) = self.elements_mut(id) {
             elements.insert(alloc, place, value)?;
         }
@@ -68,10 +78,10 @@ impl Store {
 
     /// Adds an element behind the last.
     pub fn array_push(&mut self, id: ObjectId, value: Value) -> Result<(), StoreFault>
-        ensures cells { Takes self.old.cells (1) result self.new.cells }
+        ensures cells { (bodies : MethodRow → MethodBody) → Takes self.old.cells (cost_if (is_elements (kind_at (objects_of bodies self.old) id.number)) (1)) result self.new.cells }
         ensures full { OnFull result (self.new ≡ self.old) }
     {
-        let cells = self.charged(1)?;
+        let cells = self.charged(if self.is_array(id) { 1 } else { 0 })?;
         if let Some(elements) = self.elements_mut(id) {
             elements.push(value)?;
         }
@@ -81,10 +91,14 @@ impl Store {
 
     /// Adds these elements behind the last.
     pub fn array_extend(&mut self, id: ObjectId, values: &[Value]) -> Result<(), StoreFault>
-        ensures cells { Takes self.old.cells (length values.now) result self.new.cells }
+        ensures cells { (bodies : MethodRow → MethodBody) → Takes self.old.cells (cost_if (is_elements (kind_at (objects_of bodies self.old) id.number)) (length values.now)) result self.new.cells }
         ensures full { OnFull result (self.new ≡ self.old) }
     {
-        let cells = self.charged(values.len() as u64)?;
+        let cells = self.charged(if self.is_array(id) {
+            values.len() as u64
+        } else {
+            0
+        })?;
         if let Some(elements) = self.elements_mut(id) {
             elements.extend(values)?;
         }

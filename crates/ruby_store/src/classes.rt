@@ -1,6 +1,6 @@
 //! Classes and modules.
 ghost use Rattle.std.specs.Prelude.{◌≡◌};
-ghost use Rattle.ruby_meaning.specs.Store.{class_cells, class_of, class_of_kind, kind_at};
+ghost use Rattle.ruby_meaning.specs.Store.{class_cells, class_of, class_of_kind, is_class_or_module, kind_at};
 ghost use Rattle.ruby_meaning.specs.Value.{MethodBody};
 ghost use Rattle.store_values.specs.declared.rows.MethodRow.{MethodRow};
 ghost use Rattle.store_parts.specs.Views.{texts_of};
@@ -23,6 +23,9 @@ pub(crate) const OBJECT: ClassId = ClassId { number: 0 };
 pub(crate) const MODULE: ClassId = ClassId { number: 1 };
 
 pub(crate) const CLASS: ClassId = ClassId { number: 2 };
+
+/// A name that no table gives, so that it has no text: that of what is no class.
+pub(crate) const NO_NAME: Name = Name { number: usize::MAX };
 
 const NIL: ClassId = ClassId { number: 3 };
 
@@ -84,6 +87,8 @@ impl Store {
         is_module: bool,
         above: Option<ClassId>,
     ) -> Result<ClassId, NoMemory> {
+        // Where memory fails, it fails before the class stands among the others.
+        self.objects.reserve(1)?;
         let class = ClassId {
             number: self.objects.len(),
         };
@@ -110,6 +115,13 @@ impl Store {
         Ok(class)
     }
 
+    /// Whether a class or a module has this number.
+    pub(crate) fn is_class(&self, class: ClassId) -> bool
+        ensures { (bodies : MethodRow → MethodBody) → result ≡ is_class_or_module (kind_at (objects_of bodies self.now) class.number) }
+    {
+        self.kind_at(class.number).is_class()
+    }
+
     /// What a class has.
     pub(crate) fn class_record(&self, class: ClassId) -> Option<&Class> {
         match self.kind_at(class.number) {
@@ -134,11 +146,11 @@ impl Store {
         }
     }
 
-    /// Its name, with the names of the classes around it.
+    /// Its name, with the names of the classes around it. What is no class has a name without text.
     pub fn class_name(&self, class: ClassId) -> Name {
         match self.class_record(class) {
             Some(record) => record.name,
-            None => Name { number: 0 },
+            None => NO_NAME,
         }
     }
 

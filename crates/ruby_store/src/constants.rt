@@ -10,7 +10,7 @@ impl Store {
         name: Name,
         value: Value,
     ) -> Result<(), StoreFault> {
-        let is_new = self.own_constant(class, name).is_none();
+        let is_new = self.is_class(class) && self.own_constant(class, name).is_none();
         let cells = self.charged(if is_new { 1 } else { 0 })?;
         if let Some(record) = self.class_record_mut(class) {
             record.constants.set(name, value)?;

@@ -108,7 +108,7 @@ impl Store {
         key: Value,
         value: Value,
     ) -> Result<(), StoreFault> {
-        let is_new = self.hash_get(id, &key).is_none();
+        let is_new = self.table(id).is_some() && self.hash_get(id, &key).is_none();
         let cells = self.charged(if is_new { 2 } else { 0 })?;
         let of = self.key_of(alloc, &key)?;
         if let Some(table) = self.table_mut(id) {

@@ -38,7 +38,7 @@ impl Store {
         false
     }
 
-    /// Includes a module, where it is not among the ancestors of the class yet.
+    /// Includes a module, where it is not among the ancestors of the class yet. Where memory fails, nothing changes.
     pub fn include(
         &mut self,
         alloc: Global,
@@ -48,48 +48,79 @@ impl Store {
         if self.has_ancestor(class, module) {
             return Ok(());
         }
-        self.cache.clear();
+        let Some(record) = self.class_record_mut(class) else {
+            return Ok(());
+        };
+        record.modules.push(module)?;
+        match self.lines_through(alloc, class) {
+            Ok(lines) => {
+                self.set_lines(lines);
+                self.set_included(module);
+                self.cache.clear();
+                Ok(())
+            }
+            Err(fault) => {
+                self.take_back_module(class);
+                Err(fault)
+            }
+        }
+    }
+
+    /// Takes the latest module of a class away.
+    fn take_back_module(&mut self, class: ClassId) {
+        if let Some(record) = self.class_record_mut(class) {
+            record.modules.pop();
+        }
+    }
+
+    /// The module stands in other lines than its own from now on.
+    fn set_included(&mut self, module: ClassId) {
         if let Some(record) = self.class_record_mut(module) {
             record.is_included = true;
         }
-        let mut spreads = false;
-        if let Some(record) = self.class_record_mut(class) {
-            record.modules.push(module)?;
-            spreads = record.is_included;
-        }
-        self.make_line(alloc, class)?;
-        if spreads {
-            self.make_lines_with(alloc, class)?;
-        }
-        Ok(())
     }
 
-    /// Makes the lines anew in which the module stands behind the first.
-    fn make_lines_with(&mut self, alloc: Global, module: ClassId) -> Result<(), NoMemory> {
+    /// The lines in which a class stands, by the modules that there are now.
+    fn lines_through(&self, alloc: Global, class: ClassId) -> Result<Vec<Vec<ClassId>>, NoMemory> {
+        let mut lines = Vec::new(alloc);
+        if !self.is_included(class) {
+            lines.push(self.walk_modules(alloc, class)?)?;
+            return Ok(lines);
+        }
         for at in 0..self.classes.len() {
-            if let Some(class) = self.follower(at, module) {
-                self.make_line(alloc, class)?;
+            if let Some(follower) = self.follower(at, class) {
+                lines.push(self.walk_modules(alloc, follower)?)?;
             }
         }
-        Ok(())
+        Ok(lines)
     }
 
-    /// The class that lies at this place, where the module stands in its line behind it.
-    fn follower(&self, at: usize, module: ClassId) -> Option<ClassId> {
-        let (class, rest) = self.classes.get(at)?.line.as_slice().split_first()?;
-        if is_in_line(rest, module) {
-            return Some(*class);
+    /// Whether a class is a module that another one includes.
+    fn is_included(&self, class: ClassId) -> bool {
+        match self.class_record(class) {
+            Some(record) => record.is_included,
+            None => false,
+        }
+    }
+
+    /// The class that lies at this place, where the other one stands in its line.
+    fn follower(&self, at: usize, other: ClassId) -> Option<ClassId> {
+        let line = self.classes.get(at)?.line.as_slice();
+        if is_in_line(line, other) {
+            return line.first().copied();
         }
         None
     }
 
-    /// Makes the line of a class anew.
-    fn make_line(&mut self, alloc: Global, class: ClassId) -> Result<(), NoMemory> {
-        let line = self.walk_modules(alloc, class)?;
-        if let Some(record) = self.class_record_mut(class) {
-            record.line = line;
+    /// These lines are those of the classes that they begin with.
+    fn set_lines(&mut self, lines: Vec<Vec<ClassId>>) {
+        for line in lines {
+            if let Some(class) = line.first()
+                && let Some(record) = self.class_record_mut(*class)
+            {
+                record.line = line;
+            }
         }
-        Ok(())
     }
 
     /// The class and the ancestors of its modules, each at its first place.

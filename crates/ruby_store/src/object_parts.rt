@@ -1,4 +1,7 @@
 //! What an object and a class have.
+ghost use Rattle.std.specs.Prelude.{◌≡◌};
+ghost use Rattle.ruby_store.specs.Kinds.{is_class_kind, is_array_kind};
+
 use ruby_tree::Name;
 use store_parts::{NameMap, RowTable};
 use store_values::ClassId;
@@ -20,6 +23,28 @@ pub enum ObjectKind {
     Plain(ClassId),
     /// A class or a module.
     Class(usize),
+}
+
+impl ObjectKind {
+    /// Whether it is that of a class or a module.
+    pub(crate) fn is_class(&self) -> bool
+        ensures { result ≡ is_class_kind self.now }
+    {
+        match self {
+            ObjectKind::Class(_) => true,
+            _ => false,
+        }
+    }
+
+    /// Whether it is that of an Array.
+    pub(crate) fn is_array(&self) -> bool
+        ensures { result ≡ is_array_kind self.now }
+    {
+        match self {
+            ObjectKind::Array(_) => true,
+            _ => false,
+        }
+    }
 }
 
 /// An object.

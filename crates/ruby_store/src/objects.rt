@@ -8,7 +8,7 @@ ghost use Rattle.ruby_store.specs.Cells.{Takes, OnFull};
 
 use crate::classes::OBJECT;
 use crate::object_parts::{Ends, Object, ObjectKind, Thrown};
-use crate::{ClassId, Name, ObjectId, ProcRow, Store, StoreFault, Value};
+use crate::{ClassId, EnvId, Name, ObjectId, ProcRow, Store, StoreFault, Value};
 use bs_outside::Text;
 use std::alloc::{AllocError, Global};
 
@@ -157,14 +157,21 @@ impl Store {
         Ok(id)
     }
 
-    /// What a Proc holds.
-    pub fn proc_row(&self, id: ObjectId) -> Option<ProcRow> {
+    /// What a Proc holds. Of what is no Proc this says nothing.
+    pub fn proc_row(&self, id: ObjectId) -> ProcRow {
         if let ObjectKind::Proc(place) = self.kind(id)
             && let Some(row) = self.procs.get(place)
         {
-            return Some(*row);
+            return *row;
         }
-        None
+        ProcRow {
+            unit: 0,
+            id: 0,
+            env: EnvId { number: 0 },
+            receiver: Value::Nil,
+            scope: 0,
+            home: 0,
+        }
     }
 
     /// Whether it is frozen: nil, true, false, Integers, Symbols and Strings always are.

@@ -22,7 +22,7 @@ pub const CELL_LIMIT: u64 = 16777216;
 pub struct Store {
     pub(crate) names: NameTable,
     pub(crate) objects: Vec<Object>,
-    pub(crate) variables: Vec<Vec<(Name, Value)>>,
+    pub(crate) variables: Vec<NameMap>,
     pub(crate) thrown: Vec<Thrown>,
     pub(crate) strings: Vec<Text>,
     pub(crate) arrays: Vec<Elements>,
@@ -95,24 +95,25 @@ impl Store {
     }
 
     /// Makes an environment of so many locals, each nil.
-    pub fn new_env(&mut self, parent: Option<EnvId>, size: usize) -> Result<EnvId, StoreFault>
+    pub fn new_env(&mut self, parent: Option<EnvId>, size: u64) -> Result<EnvId, StoreFault>
         ensures cells { Takes self.old.cells (environment_cells size) result self.new.cells }
         ensures full { OnFull result (self.new ≡ self.old) }
     {
-        let cells = self.charged((size as u64).saturating_add(1))?;
-        let env = self.environments.add(parent, size)?;
+        let cells = self.charged(size.saturating_add(1))?;
+        let env = self.environments.add(parent, size as usize)?;
         self.cells = cells;
         Ok(env)
     }
 
     /// The value of a local, in the environment that stands `level` steps outward.
-    pub fn get_local(&self, env: EnvId, idx: usize, level: usize) -> Value {
-        self.environments.get(env, idx, level)
+    pub fn get_local(&self, env: EnvId, idx: u64, level: u64) -> Value {
+        self.environments.get(env, idx as usize, level as usize)
     }
 
     /// Sets a local, in the environment that stands `level` steps outward.
-    pub fn set_local(&mut self, env: EnvId, idx: usize, level: usize, value: Value) {
-        self.environments.set(env, idx, level, value);
+    pub fn set_local(&mut self, env: EnvId, idx: u64, level: u64, value: Value) {
+        self.environments
+            .set(env, idx as usize, level as usize, value);
     }
 
     /// The value of a global, nil where it was never set.

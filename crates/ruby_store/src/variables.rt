@@ -1,6 +1,8 @@
 //! The variables of objects.
+use crate::classes::NO_NAME;
 use crate::{Name, Store, StoreFault, Value};
 use std::alloc::Global;
+use store_parts::NameMap;
 
 /// The number of the object, class or module that a value is.
 fn number_of(of: &Value) -> Option<usize> {
@@ -11,24 +13,14 @@ fn number_of(of: &Value) -> Option<usize> {
     }
 }
 
-/// The place of a name among variables.
-fn place_in(variables: &[(Name, Value)], name: Name) -> Option<usize> {
-    for (place, variable) in variables.iter().enumerate() {
-        if variable.0.number == name.number {
-            return Some(place);
-        }
-    }
-    None
-}
-
 impl Store {
     /// The variables of an object, a class or a module.
-    fn variables_of(&self, of: &Value) -> Option<&[(Name, Value)]> {
+    fn variables_of(&self, of: &Value) -> Option<&NameMap> {
         let object = self.objects.get(number_of(of)?)?;
         if object.variables == 0 {
             return None;
         }
-        Some(self.variables.get(object.variables - 1)?.as_slice())
+        self.variables.get(object.variables - 1)
     }
 
     /// How many variables were set.
@@ -39,23 +31,22 @@ impl Store {
         }
     }
 
-    /// The variable at a place, and its value.
+    /// The variable at a place, and its value. They stand in the order in which they were first set.
     pub fn variable_at(&self, of: &Value, place: usize) -> (Name, Value) {
         if let Some(variables) = self.variables_of(of)
-            && let Some(variable) = variables.get(place)
+            && let Some(variable) = variables.at(place)
         {
-            return *variable;
+            return variable;
         }
-        (Name { number: 0 }, Value::Nil)
+        (NO_NAME, Value::Nil)
     }
 
     /// The value of a variable, nil where it was never set.
     pub fn variable(&self, of: &Value, name: Name) -> Value {
         if let Some(variables) = self.variables_of(of)
-            && let Some(place) = place_in(variables, name)
-            && let Some(variable) = variables.get(place)
+            && let Some(value) = variables.get(name)
         {
-            return variable.1;
+            return value;
         }
         Value::Nil
     }
@@ -68,51 +59,44 @@ impl Store {
         name: Name,
         value: Value,
     ) -> Result<(), StoreFault> {
-        if let Some(number) = number_of(of)
-            && let Some(object) = self.objects.get(number)
-        {
-            let list = object.variables;
-            if self.replace_variable(list, name, value) {
-                return Ok(());
-            }
-            let cells = self.charged(1)?;
-            self.add_variable(alloc, number, list, (name, value))?;
-            self.cells = cells;
+        let Some(number) = number_of(of) else {
+            return Ok(());
+        };
+        let Some(object) = self.objects.get(number) else {
+            return Ok(());
+        };
+        let list = object.variables;
+        if list == 0 {
+            return self.set_first_variable(alloc, number, name, value);
         }
+        let is_new = match self.variables_of(of) {
+            Some(variables) => variables.get(name).is_none(),
+            None => false,
+        };
+        let cells = self.charged(if is_new { 1 } else { 0 })?;
+        if let Some(variables) = self.variables.get_mut(list - 1) {
+            variables.set(name, value)?;
+        }
+        self.cells = cells;
         Ok(())
     }
 
-    /// Sets a variable that is there.
-    fn replace_variable(&mut self, list: usize, name: Name, value: Value) -> bool {
-        if list != 0
-            && let Some(variables) = self.variables.get_mut(list - 1)
-            && let Some(place) = place_in(variables.as_slice(), name)
-            && let Some(variable) = variables.get_mut(place)
-        {
-            variable.1 = value;
-            return true;
-        }
-        false
-    }
-
-    /// Adds a variable to the list of an object, where 0 is none.
-    fn add_variable(
+    /// Sets the first variable of what has none.
+    fn set_first_variable(
         &mut self,
         alloc: Global,
         number: usize,
-        list: usize,
-        variable: (Name, Value),
+        name: Name,
+        value: Value,
     ) -> Result<(), StoreFault> {
-        if list == 0 {
-            let mut variables = Vec::new(alloc);
-            variables.push(variable)?;
-            self.variables.push(variables)?;
-            if let Some(object) = self.objects.get_mut(number) {
-                object.variables = self.variables.len();
-            }
-        } else if let Some(variables) = self.variables.get_mut(list - 1) {
-            variables.push(variable)?;
+        let cells = self.charged(1)?;
+        let mut variables = NameMap::new(alloc);
+        variables.set(name, value)?;
+        self.variables.push(variables)?;
+        if let Some(object) = self.objects.get_mut(number) {
+            object.variables = self.variables.len();
         }
+        self.cells = cells;
         Ok(())
     }
 }

@@ -7,10 +7,12 @@ use store_values::{EnvId, Value};
 /// Where the slots of an environment lie, and the environment around it.
 #[derive(Clone, Copy, Drop)]
 struct Extent {
-    /// The number of the environment around it, plus 1, or 0 where there is none.
-    parent: usize,
+    /// The environment around it.
+    parent: Option<EnvId>,
     /// The place of its first slot.
     start: usize,
+    /// The place behind its last slot.
+    end: usize,
 }
 
 /// Environments, by their numbers. The slots of all of them lie in one vector.
@@ -36,33 +38,31 @@ impl Environments {
 
     /// Adds an environment of so many slots, each nil.
     pub fn add(&mut self, parent: Option<EnvId>, size: usize) -> Result<EnvId, NoMemory> {
-        let extent = Extent {
-            parent: match parent {
-                Some(env) => env.number.saturating_add(1),
-                None => 0,
-            },
-            start: self.slots.len(),
-        };
-        let number = self.extents.len();
+        let start = self.slots.len();
         self.slots.reserve(size)?;
         for _ in 0..size {
             self.slots.push(Value::Nil)?;
         }
-        self.extents.push(extent)?;
+        let number = self.extents.len();
+        self.extents.push(Extent {
+            parent,
+            start,
+            end: self.slots.len(),
+        })?;
         Ok(EnvId { number })
     }
 
     /// The place of a slot of the environment that stands `level` steps outward.
     fn place_of(&self, env: EnvId, slot: usize, level: usize) -> Option<usize> {
-        let mut number = env.number;
+        let mut extent = self.extents.get(env.number)?;
         for _ in 0..level {
-            let parent = self.extents.get(number)?.parent;
-            if parent == 0 {
-                return None;
-            }
-            number = parent - 1;
+            extent = self.extents.get(extent.parent?.number)?;
         }
-        self.extents.get(number)?.start.checked_add(slot)
+        let place = extent.start.checked_add(slot)?;
+        if place < extent.end {
+            return Some(place);
+        }
+        None
     }
 
     /// The value in a slot of the environment that stands `level` steps outward.

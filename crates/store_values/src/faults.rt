@@ -3,17 +3,21 @@ ghost use Rattle.std.specs.Prelude.{◌≡◌};
 ghost use Rattle.store_values.specs.declared.faults.StoreFault.TheVariants as fault;
 
 use std::alloc::{AllocError, AllocFailed};
+use thiserror::Error;
 
 /// The cells would pass the limit.
-#[derive(Clone, Copy, Debug, PartialEq, Eq, Drop)]
+#[derive(Clone, Copy, Debug, PartialEq, Eq, Drop, Error)]
+#[error("the store is full")]
 pub struct Full;
 
 /// Why a store makes nothing more.
-#[derive(Clone, Copy, Debug, PartialEq, Eq, Drop)]
+#[derive(Clone, Copy, Debug, PartialEq, Eq, Drop, Error)]
 pub enum StoreFault {
     /// The cells would pass the limit, and the store is as before.
+    #[error(transparent)]
     Full(Full),
     /// There was not memory enough.
+    #[error("out of memory")]
     NoMemory,
 }
 
