@@ -109,19 +109,22 @@ part_sequence l kind t = record {
   code = lines_of (depth_in kind) 0 (shape l t);
 }
 
--- A sequence of a program: the place of its first token, its kind, the number of the sequence around it, and its body.
+-- A sequence of a program: the place of its first token, its kind, the number of the sequence around it, its body, where its nodes stand, and
+-- the tree that it is of.
 pub record Compiled : Type 0 where
   pub place : ℕ
   pub kind : SeqKind
   pub parent : ℕ
   pub body : Sequence
+  pub inner : Where
+  pub tree : Tree
 
 -- a body that stands where l says, and whose nodes stand where inner says
 abbrev pub compiled_body : Where → Where → SeqKind → Bytes → Tree → Compiled
-compiled_body l inner kind name t = record { place = place_of t; kind = kind; parent = l.number; body = body_sequence inner name t }
+compiled_body l inner kind name t = record { place = place_of t; kind = kind; parent = l.number; body = body_sequence inner name t; inner = inner; tree = t }
 
 abbrev pub compiled_part : Where → Where → SeqKind → Tree → Compiled
-compiled_part l inner kind t = record { place = place_of t; kind = kind; parent = l.number; body = part_sequence inner kind t }
+compiled_part l inner kind t = record { place = place_of t; kind = kind; parent = l.number; body = part_sequence inner kind t; inner = inner; tree = t }
 
 -- ---- the sequences of a tree
 
@@ -221,7 +224,14 @@ by_places (c ∷ cs) = among c (by_places cs)
 
 -- the file's own sequence
 abbrev pub compiled_file : Bytes → Tree → Compiled
-compiled_file path t = record { place = 0; kind = kinds.File; parent = 0; body = body_sequence (in_file path t) [] (file_body t) }
+compiled_file path t = record {
+  place = 0;
+  kind = kinds.File;
+  parent = 0;
+  body = body_sequence (in_file path t) [] (file_body t);
+  inner = in_file path t;
+  tree = file_body t;
+}
 
 -- The sequences of a program in the order of their numbers: the file's own, and those that stand in it by their places.
 abbrev pub sequences_of : Bytes → Tree → List Compiled
