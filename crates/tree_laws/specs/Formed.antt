@@ -87,7 +87,7 @@ abbrev mutual
   IsBody (at s f) = IsBodyForm f
 
   pub IsBodyForm : Form → Type 0
-  IsBodyForm (body ps a) = (InOrder 0 ps × IsDistinct same (names_of_params ps)) × (ParamsFormed ps × IsFormed false a)
+  IsBodyForm (body ps a) = (InOrder 0 ps × IsDistinct same (names_of_params ps)) × (ParamsFormed false ps × IsFormed false a)
   IsBodyForm f = ⊥
 
   -- the block of a call, if it has one
@@ -100,7 +100,7 @@ abbrev mutual
   IsRescuePart (at s f) = IsRescueForm f
 
   pub IsRescueForm : Form → Type 0
-  IsRescueForm (rescue_sequence cs) = ClausesFormed cs
+  IsRescueForm (rescue_sequence cs) = ClausesFormed true cs
   IsRescueForm f = ⊥
 
   -- the part of an ensure
@@ -132,13 +132,13 @@ abbrev mutual
   WhensFormed c no_when = ⊤
   WhensFormed c (when ts t ws) = TreesFormed c ts × (IsFormed c t × WhensFormed c ws)
 
-  pub ClausesFormed : Rescues → Type 0
-  ClausesFormed no_clause = ⊤
-  ClausesFormed (clause ts x t cs) = TreesFormed true ts × (IsFormed true t × ClausesFormed cs)
+  pub ClausesFormed : Bool → Rescues → Type 0
+  ClausesFormed c no_clause = ⊤
+  ClausesFormed c (clause ts x t cs) = TreesFormed c ts × (IsFormed c t × ClausesFormed c cs)
 
-  pub ParamsFormed : Params → Type 0
-  ParamsFormed no_param = ⊤
-  ParamsFormed (required x ps) = ParamsFormed ps
-  ParamsFormed (optional x t ps) = IsFormed false t × ParamsFormed ps
-  ParamsFormed (rest_param x ps) = ParamsFormed ps
-  ParamsFormed (block_param x ps) = ParamsFormed ps
+  pub ParamsFormed : Bool → Params → Type 0
+  ParamsFormed c no_param = ⊤
+  ParamsFormed c (required x ps) = ParamsFormed c ps
+  ParamsFormed c (optional x t ps) = IsFormed c t × ParamsFormed c ps
+  ParamsFormed c (rest_param x ps) = ParamsFormed c ps
+  ParamsFormed c (block_param x ps) = ParamsFormed c ps
