@@ -1,7 +1,8 @@
 -- Sequences in the order of their places: each stands where its number says.
-use Rattle.std.proofs.Common.{◌≡◌, ℕ, zero, suc, ◌<◌, Bool, true, false, cond, nat_eq, nat_lt, nat_le, List, [], ◌∷◌, map, get_or, ◌⊎◌, inl, inr, refl, sym, ap, ◌∙◌, subst, arith}
+use Rattle.std.proofs.Common.{◌≡◌, ℕ, zero, suc, ◌<◌, Bool, true, false, cond, nat_eq, nat_lt, nat_le, List, [], ◌∷◌, map, length, get_or, ◌⊎◌, inl, inr, refl, sym, ap, ◌∙◌, subst, arith}
 use Rattle.std.specs.List.{AllByRecursion, IsDistinct}
 use Rattle.std.proofs.lemmas.Bool.{ltb-true, leb-true, leb-false, lt-ltb, le-ltb, eqb-false}
+use Rattle.std.proofs.lemmas.List.Elements.{All-from_recursion}
 use Rattle.std.specs.Prelude.{⊤}
 use Rattle.ruby_meaning.specs.Sequences.{count_below}
 use Rattle.compile_table.specs.Sequences.{Compiled, among, by_places}
@@ -19,7 +20,7 @@ abbrev Rises : List Compiled → Type 0
 Rises [] = ⊤
 Rises (c ∷ cs) = AllByRecursion (λ d. c.place < d.place) cs × Rises cs
 
-of_all : (P : Compiled → Type 0) (cs : List Compiled) (e : Compiled) → AllByRecursion P cs → In e cs → P e
+pub of_all : (P : Compiled → Type 0) (cs : List Compiled) (e : Compiled) → AllByRecursion P cs → In e cs → P e
 of_all P [] e all i = absurd i
 of_all P (c ∷ cs) e all (inl same) = subst P (sym same) all.0
 of_all P (c ∷ cs) e all (inr there) = of_all P cs e all.1 there
@@ -91,7 +92,7 @@ among_count p c (d ∷ ds) = by (nat_le c.place d.place) (among_count p c ds)
 
 -- ---- all of them
 
-by_all : (P : Compiled → Type 0) (cs : List Compiled) → AllByRecursion P cs → AllByRecursion P (by_places cs)
+pub by_all : (P : Compiled → Type 0) (cs : List Compiled) → AllByRecursion P cs → AllByRecursion P (by_places cs)
 by_all P [] all = tt
 by_all P (c ∷ cs) all = among_all P c (by_places cs) all.0 (by_all P cs all.1)
 
@@ -131,6 +132,19 @@ stands e z (d ∷ ds) up (inr there) = ap (λ n. get_or (d ∷ ds) n z) later �
   where
     later : count_below e.place (spots (d ∷ ds)) ≡ suc (count_below e.place (spots ds))
     later = ap (λ b. cond b (suc (count_below e.place (spots ds))) (count_below e.place (spots ds))) (lt-ltb d.place e.place (of_all (λ x. d.place < x.place) ds e up.0 there))
+
+-- as many have a lesser place as stand before it
+before : (z : Compiled) (ds : List Compiled) (k : ℕ) → Rises ds → k < length ds → count_below (get_or ds k z).place (spots ds) ≡ k
+before z [] k up less = absurd (omega arith)
+before z (d ∷ ds) zero up less =
+    ap (λ b. cond b (suc (count_below d.place (spots ds))) (count_below d.place (spots ds))) (le-ltb d.place d.place (omega arith)) ∙ none_below d.place ds up.0
+before z (d ∷ ds) (suc k) up less =
+    let p = (get_or ds k z).place in
+    let later : nat_lt d.place p ≡ true = lt-ltb d.place p (All-from_recursion (λ (x : Compiled). d.place < x.place) ds up.0 k z (omega arith)) in
+    ap (λ b. cond b (suc (count_below p (spots ds))) (count_below p (spots ds))) later ∙ ap suc (before z ds k up.1 (omega arith))
+
+pub those_before : (z : Compiled) (cs : List Compiled) (k : ℕ) → IsDistinct nat_eq (spots cs) → k < length (by_places cs) → count_below (get_or (by_places cs) k z).place (spots cs) ≡ k
+those_before z cs k apart less = sym (by_count (get_or (by_places cs) k z).place cs) ∙ before z (by_places cs) k (by_rises cs apart) less
 
 -- among those in order, one stands behind as many as have a lesser place
 pub in_its_place : (e z : Compiled) (cs : List Compiled) → IsDistinct nat_eq (spots cs) → In e cs → get_or (by_places cs) (count_below e.place (spots cs)) z ≡ e
