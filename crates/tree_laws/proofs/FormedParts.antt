@@ -12,7 +12,7 @@ use Rattle.ruby_tree.specs.Grammar as g
 use Rattle.ruby_tree.specs.Placement.{Around, in_class, at_home, in_clause}
 use Rattle.reference_laws.specs.Placed.{IsPlaced, home_of}
 use Rattle.tree_laws.specs.Formed.{AreSpread, HasOneBlock, InOrder, IsBody}
-use Rattle.tree_laws.proofs.Forming.{Forming, FormingTree, FormingTrees, FormingOther, FormingBlock, FormingPairs, FormingPieces, FormingWhens, FormingClauses, FormingParams, still, ◌⊕◌, ◌⊗◌, after, before, node, node_with, looped, SpreadFrom, spread_later, are_spread, none_spread, only_block, longer_path, block_formed, body_formed, ensure_formed, rescue_formed, in_clauses}
+use Rattle.tree_laws.proofs.Forming.{Forming, FormingTree, FormingTrees, FormingOther, FormingBlock, FormingPairs, FormingPieces, FormingWhens, FormingClauses, FormingParams, still, ◌⊕◌, ◌⊗◌, after, before, node, node_with, looped, SpreadFrom, spread_later, are_spread, none_spread, only_block, longer_path, block_formed, body_formed, ensure_formed, one_clause, rescue_formed, in_clauses}
 
 pub record Forms (R : Rels) : Type 0 where
   pub stmts : {d : DoBlockOwner} {w r : Toks} {s z : Scope} {t : Tree} → R.stmts d w s t r z → FormingTree s.clause t z.clause
@@ -228,11 +228,11 @@ module _ (source : Bytes) where
     form_classes (g.Classes.given h) = form_several h
 
     form_clauses : {d : DoBlockOwner} {s z : Scope} {rs : Rescues} {w r : Toks} → Clauses source R d w s rs r z → FormingClauses s.clause rs z.clause
-    form_clauses (g.Clauses.last h c x i j k) =
-        let m = form_classes c ⊕ after (form_exception_name x) (S.stmts j ⊕ still) in
-        record { kept = refl; is = λ a e p. m.is (in_clause a) refl p }
-    form_clauses (g.Clauses.another h c x i j k) =
-        let m = form_classes c ⊕ after (form_exception_name x) (S.stmts j) in
+    form_clauses (g.Clauses.last {cs = ts} {t = t} h c x i j k) =
+        let m = one_clause ts t (form_classes c) (form_exception_name x) (S.stmts j) in
+        record { kept = refl; is = λ a e p. let q = m.is (in_clause a) refl (p.0, p.1.0) in (q.0, (q.1, tt)) }
+    form_clauses (g.Clauses.another {cs = ts} {t = t} h c x i j k) =
+        let m = one_clause ts t (form_classes c) (form_exception_name x) (S.stmts j) in
         let n = form_clauses k in
         record { kept = n.kept; is = λ a e p. let q = m.is (in_clause a) refl (p.0, p.1.0) in (q.0, (q.1, n.is a e p.1.1)) }
 
@@ -364,8 +364,8 @@ module _ (source : Bytes) where
     form_primary (g.Primary.called_super h i j k) = let a = form_in_brackets j in node_with (facts_with_block k (facts_of_brackets j)) (a.trees ⊕ (a.value ⊕ form_call_block k a.block))
     form_primary (g.Primary.if_form h i j k n m) = node (S.expr i ⊕ (S.stmts k ⊕ S.else_branches n))
     form_primary (g.Primary.unless_form {e = other} h i j k n m) = node (S.expr i ⊕ (S.stmts k ⊗ or_empty_formed other (S.else_branches n)))
-    form_primary (g.Primary.while_form h i j k n) = node (S.expr i ⊗ looped (S.stmts k))
-    form_primary (g.Primary.until_form h i j k n) = node (S.expr i ⊗ looped (S.stmts k))
+    form_primary (g.Primary.while_form {t = t} h i j k n) = node (S.expr i ⊗ looped t (S.stmts k))
+    form_primary (g.Primary.until_form {t = t} h i j k n) = node (S.expr i ⊗ looped t (S.stmts k))
     form_primary (g.Primary.begin_form h i j) = form_body i
     form_primary (g.Primary.case_form h i j k n m) = node (S.expr i ⊕ (form_whens k ⊕ form_else n))
     form_primary (g.Primary.case_of_tests h j k n m) = node (form_whens k ⊕ form_else n)

@@ -174,8 +174,8 @@ module _ (source : Bytes) (R : Rels) (S : Forms R) where
   form_modifiers : {d : DoBlockOwner} {o : Toks} {c : Bool} {s z : Scope} {x t : Tree} {w r : Toks} {l : Bool} → Modifiers source R d o c x w s t r z → FormingTree l x s.clause → FormingTree l t z.clause
   form_modifiers (g.Modifiers.if_holds h i j) a = form_modifiers j (node ((node (a ⊕ still) ⊕ still) ⊗ S.expr i))
   form_modifiers (g.Modifiers.unless_holds h i j) a = form_modifiers j (node ((still ⊕ node (a ⊕ still)) ⊗ S.expr i))
-  form_modifiers (g.Modifiers.while_holds h i j) a = form_modifiers j (node (looped (node (a ⊕ still)) ⊕ S.expr i))
-  form_modifiers (g.Modifiers.until_holds h i j) a = form_modifiers j (node (looped (node (a ⊕ still)) ⊕ S.expr i))
+  form_modifiers {o = o} {x = x} (g.Modifiers.while_holds h i j) a = form_modifiers j (node (looped (alone o x) (alone_formed o x a) ⊕ S.expr i))
+  form_modifiers {o = o} {x = x} (g.Modifiers.until_holds h i j) a = form_modifiers j (node (looped (alone o x) (alone_formed o x a) ⊕ S.expr i))
   form_modifiers {o = o} {x = x} {w = w} (g.Modifiers.saved {c = u} h i j) a = form_modifiers j (rescued_formed o w x u a (S.expr i))
   form_modifiers (g.Modifiers.end h) a = a
 

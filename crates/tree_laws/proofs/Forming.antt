@@ -76,8 +76,8 @@ pub node_with : {s z : Bool} {A K : Around → Type 0} {H : Bool → Type 0} {X 
 node_with x a = record { kept = a.kept; is = λ c e k. (x, a.is c e k.1) }
 
 -- the body of a loop
-pub looped : {s z : Bool} {t : Tree} → FormingTree s t z → Forming s (λ c. IsPlaced (in_loop c) t) (λ b. IsFormed b t) z
-looped a = record { kept = a.kept; is = λ c e k. a.is (in_loop c) e k }
+pub looped : {s z : Bool} (t : Tree) → FormingTree s t z → Forming s (λ c. IsPlaced (in_loop c) t) (λ b. IsFormed b t) z
+looped t a = record { kept = a.kept; is = λ c e k. a.is (in_loop c) e k }
 
 -- What is spread.
 
@@ -105,7 +105,7 @@ spread_later false k t ts ks h = later k t ts ks h
 
 all_placed : (ts : Trees) (ks : List ℕ) → SpreadFrom 0 ts ks → AllByRecursion (HasTreeAt ts) ks
 all_placed ts [] h = tt
-all_placed ts (p ∷ ks) h = (at_place 0 ts p p h.0 refl, all_placed ts ks h.1)
+all_placed ts (p ∷ ks) h = (at_place 0 ts p p h.0 (omega arith), all_placed ts ks h.1)
 
 pub are_spread : (ts : Trees) (ks : List ℕ) → SpreadFrom 0 ts ks → AreSpread ts ks
 are_spread ts ks h = All-from_recursion (HasTreeAt ts) ks (all_placed ts ks h)
@@ -160,6 +160,10 @@ body_formed o ps a i g j h k = ((i, distinct ps k.0), (g ⊕ j).is (at_home h) r
 -- the part of an ensure
 pub ensure_formed : {s z : Bool} (o : SourcePosition) (a : Tree) → FormingTree false a z → Forming s (λ c. IsPlaced c (at o (ensure_sequence a))) (λ b. IsEnsurePart (at o (ensure_sequence a))) s
 ensure_formed o a h = record { kept = refl; is = λ c e k. h.is (outside_clause c) refl k.1 }
+
+-- one clause: its classes, its name, and its body
+pub one_clause : {y u z : Bool} (ts : Trees) (t : Tree) → FormingTrees true ts y → Forming y (λ c. ⊤) (λ b. ⊤) u → FormingTree u t z → Forming true (λ c. TreesPlaced c ts × IsPlaced c t) (λ b. TreesFormed b ts × IsFormed b t) z
+one_clause ts t a x h = a ⊕ after x h
 
 -- the clauses of a rescue
 pub rescue_formed : {s z : Bool} (o : SourcePosition) (rs : Rescues) → FormingClauses s rs z → Forming s (λ c. IsPlaced (in_clause c) (at o (rescue_sequence rs))) (λ b. IsRescuePart (at o (rescue_sequence rs))) z
