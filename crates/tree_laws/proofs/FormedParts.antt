@@ -1,5 +1,5 @@
 -- The trees of a text are formed: lists, bodies and operands.
-use Rattle.std.proofs.Common.{◌≡◌, ℕ, suc, ◌≤◌, Bool, true, false, List, [], ◌∷◌, if◌then◌else◌, ◌&&◌, codes, Option, refl, arith}
+use Rattle.std.proofs.Common.{◌≡◌, ℕ, Bool, true, false, List, [], ◌∷◌, if◌then◌else◌, ◌&&◌, codes, Option, refl, arith}
 use Rattle.std.specs.Prelude.{⊤}
 use Rattle.std.proofs.lemmas.Bool.{leb-true}
 use Rattle.ruby_lexer.specs.Bytes.{Bytes, same}
@@ -9,7 +9,7 @@ use Rattle.ruby_tree.specs.Rules.{Scope, DoBlockOwner, declared, next, word, pos
 use Rattle.ruby_tree.specs.Build.{Given, alone, symbol_block, or_empty, call_form, bare_form, path_with, texts_at, symbols_at}
 use Rattle.ruby_tree.specs.Grammar.{Rels, BlockParams, Bars, ExceptionName, MoreTargets, Targets, Several, Element, Elements, Pair, PairList, Passed, Items, InBrackets, CommandItems, Classes, Clauses, Else, Rescued, Body, DoBlock, Block, CallBlock, CommandBlock, CallItems, TextParts, ElseBranches, WhenList, MethodParams, ParameterList, Parameters, Superclass, Literal, Primary, Postfixes, Postfix}
 use Rattle.ruby_tree.specs.Grammar as g
-use Rattle.ruby_tree.specs.Placement.{Around, in_class, at_home, in_clause}
+use Rattle.ruby_tree.specs.Placement.{in_class, at_home, in_clause}
 use Rattle.reference_laws.specs.Placed.{IsPlaced, home_of}
 use Rattle.tree_laws.specs.Formed.{AreSpread, HasOneBlock, InOrder, IsBody}
 use Rattle.tree_laws.proofs.Forming.{Forming, FormingTree, FormingTrees, FormingOther, FormingBlock, FormingPairs, FormingPieces, FormingWhens, FormingClauses, FormingParams, still, ◌⊕◌, ◌⊗◌, after, before, node, node_with, looped, SpreadFrom, spread_later, are_spread, none_spread, only_block, longer_path, block_formed, body_formed, ensure_formed, one_clause, rescue_formed, in_clauses}

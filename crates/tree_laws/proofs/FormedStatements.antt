@@ -1,5 +1,5 @@
 -- The trees of a text are formed: operators, assignments, commands and statements.
-use Rattle.std.proofs.Common.{ℕ, zero, suc, Bool, true, List, [], None, refl, codes}
+use Rattle.std.proofs.Common.{ℕ, zero, suc, Bool, true, [], None, refl, codes}
 use Rattle.ruby_lexer.specs.Bytes.{Bytes}
 use Rattle.ruby_lexer.specs.Pieces.{Toks}
 use Rattle.ruby_tree.specs.Tree.{SourcePosition, Goal, to_local, to_instance, to_global, to_constant, Tree, at, Trees, no_more, no_clause, clause}
@@ -9,7 +9,7 @@ use Rattle.ruby_tree.specs.Grammar.{Rel, Rels, derives, UnaryOperand, Power, Min
 use Rattle.ruby_tree.specs.Grammar as g
 use Rattle.ruby_tree.specs.Placement.{in_clause}
 use Rattle.tree_laws.proofs.Forming.{FormingTree, FormingTrees, FormingClauses, still, ◌⊕◌, ◌⊗◌, after, before, node, node_with, looped, none_spread, longer_path, rescue_formed}
-use Rattle.tree_laws.proofs.FormedParts.{Forms, given, call_formed, own_call_formed, declared_keeps, form_targets, form_several, facts_of_command, facts_with_do, form_command_items, form_command_block, form_elses, form_postfix}
+use Rattle.tree_laws.proofs.FormedParts.{Forms, given, call_formed, declared_keeps, form_targets, form_several, facts_of_command, facts_with_do, form_command_items, form_command_block, form_elses, form_postfix}
 
 -- what two operands and an operator make
 abbrev Making : (Toks → Toks → Tree → Tree → Tree) → Type 0

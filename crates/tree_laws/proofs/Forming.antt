@@ -1,13 +1,11 @@
 -- What is said of a part of the grammar: where it is placed it is formed, and behind it one is in a rescue clause or not as before it.
-use Rattle.std.proofs.Common.{◌≡◌, ◌∙◌, ◌⊎◌, inl, inr, ℕ, zero, suc, ◌+◌, ◌<◌, Bool, true, false, not, ◌&&◌, ◌||◌, if◌then◌else◌, List, [], ◌∷◌, ◌++◌, length, All, codes, refl, sym, ap, subst, arith}
+use Rattle.std.proofs.Common.{◌≡◌, ◌∙◌, ◌⊎◌, inl, inr, ℕ, zero, suc, ◌+◌, ◌<◌, Bool, true, false, not, ◌||◌, if◌then◌else◌, List, [], ◌∷◌, ◌++◌, length, refl, sym, ap, subst, arith}
 use Rattle.std.specs.Prelude.{⊤}
 use Rattle.std.specs.List.{IsDistinct, AllByRecursion}
 use Rattle.std.proofs.lemmas.Bool.{not-false}
 use Rattle.std.proofs.lemmas.List.Elements.{All-from_recursion}
 use Rattle.ruby_lexer.specs.Bytes.{Bytes, same, is_in}
-use Rattle.ruby_lexer.specs.Pieces.{Toks}
-use Rattle.ruby_tree.specs.Tree.{SourcePosition, Tree, at, local, constant_path, send, bare_raise, retry, statements, both, either, rescue, ensure, rescue_sequence, ensure_sequence, method, body, Trees, no_more, more, Pairs, Pieces, Other, without, with, Whens, Rescues, no_clause, clause, Params, no_param, required, optional, rest_param, block_param}
-use Rattle.ruby_tree.specs.Rules.{Scope}
+use Rattle.ruby_tree.specs.Tree.{SourcePosition, Tree, at, rescue_sequence, ensure_sequence, body, Trees, no_more, more, Pairs, Pieces, Other, without, with, Whens, Rescues, Params, no_param, required, optional, rest_param, block_param}
 use Rattle.ruby_tree.specs.Build.{is_there, spread_at}
 use Rattle.ruby_tree.specs.Placement.{Home, Around, in_loop, in_block, in_clause, outside_clause, at_home, names_of, stands_twice}
 use Rattle.ruby_meaning.specs.Locals.{names_of_params}
