@@ -23,7 +23,8 @@ pub fn sequences_begin_apart()
 {}
 
 /// Each local that is read or set in a text's tree is held where it stands: by the environment of
-/// the body that it stands in, or by one outward.
+/// the body that it stands in, or by one outward. So are the parameters that a `super` without
+/// arguments hands on.
 pub fn locals_are_held()
     ensures held { (source : Bytes) (t : Tree) → Reads source t → IsHoused (file_sight t) t }
 {}
