@@ -15,3 +15,4 @@ pub mod ByPlaces
 pub mod FoundTrees
 pub mod FoundPrograms
 pub mod ProgramsRun
+pub mod ReadText

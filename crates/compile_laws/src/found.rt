@@ -16,6 +16,7 @@ ghost use Rattle.code_meaning.specs.Machine.{Runs};
 ghost use Rattle.code_meaning.specs.Frames.{running, returning, Turns};
 ghost use Rattle.compile_table.specs.Sequences.{Compiled, sequences_of, sequence_at, routines, bodies};
 ghost use Rattle.compile_laws.specs.Finds.{Stands, start_of};
+ghost use Rattle.compile_laws.specs.WorkedText.{worked_text, worked_tree, worked_sequences, worked_finds};
 ghost use Rattle.compile_laws.specs.Found.{IsBodyKind, IsOfProgram, loaded_frame, loaded_world};
 
 /// Of a text's tree, each sequence of the program stands in the tables under its number, and the
@@ -38,4 +39,12 @@ pub fn bodies_of_programs_run()
 pub fn files_of_texts_run()
     ensures runs { (files : Files) (path : Bytes) (load : Option ℕ) (source : Source) (t : Tree) (outside : Option (Bytes × ℕ)) (inside calling : List ℕ) (w : World) → Reads source t → Runs files (evaluate files) (routines path t) (bodies path t) (routines path t 0) (loaded_frame path load t outside inside calling w) 0 [] (loaded_world t w) (evaluate files (file_body t) (loaded_frame path load t outside inside calling w) (loaded_world t w)) }
     ensures machine { (files : Files) (path : Bytes) (load : Option ℕ) (source : Source) (t : Tree) (outside : Option (Bytes × ℕ)) (inside calling : List ℕ) (w : World) (o : Outcome) → Reads source t → Turns files (evaluate files) (routines path t) (bodies path t) (running (routines path t 0) (loaded_frame path load t outside inside calling w) 0 [] (loaded_world t w) []) (returning o []) → o ≡ evaluate files (file_body t) (loaded_frame path load t outside inside calling w) (loaded_world t w) }
+{}
+
+/// A small text with a block and a rescue part: it is read, its program has their sequences, and the
+/// tables have all that the file's body has. So the premises of what stands above are met.
+pub fn a_worked_text_is_found()
+    ensures read { Reads worked_text worked_tree }
+    ensures sequences { worked_sequences }
+    ensures finds { worked_finds }
 {}
