@@ -10,8 +10,8 @@ use Rattle.compile_table.specs.Sequences.{Compiled, in_file, sequences, by_place
 use Rattle.tree_laws.specs.Formed.{IsFormed}
 use Rattle.compile_laws.specs.Finds.{Finds}
 use Rattle.compile_laws.specs.Found.{IsOfProgram}
-use Rattle.compile_laws.proofs.ByPlaces.{In, spots, of_all, all_of, by_all, in_its_place, those_before}
-use Rattle.compile_laws.proofs.FoundTrees.{Have, Known, IsKnown, Told, tree_told}
+use Rattle.compile_laws.proofs.ByPlaces.{In, of_all, all_of, by_all, in_its_place, those_before}
+use Rattle.compile_laws.proofs.FoundTrees.{Have, IsKnown, Told, tree_told}
 
 module _ (path : Bytes) (t : Tree) (fm : IsFormed false t) (hs : IsHoused (file_sight t) t) (apart : IsDistinct nat_eq (places t)) where
   -- those that stand in the file

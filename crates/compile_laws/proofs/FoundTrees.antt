@@ -1,7 +1,6 @@
 -- Where the tables have each sequence of a tree, all that is to be found in the tree is found, and its sequences have the places of the tree.
 use Rattle.std.proofs.Common.{◌≡◌, ℕ, true, false, refl, sym, ap, ap₂, ◌∙◌, subst, List, [], ◌∷◌, ◌++◌}
 use Rattle.std.specs.List.{AllByRecursion}
-use Rattle.std.specs.Prelude.{⊤}
 use Rattle.std.proofs.lemmas.List.{map-append}
 use Rattle.ruby_tree.specs.Names.{Bytes}
 use Rattle.ruby_tree.specs.Tree.{SourcePosition, Tree, at, Form, nil_value, true_value, false_value, integer, symbol, text, self_value, file_name, folder_name, line_number, local, instance, global, joined, array, hash, range, constant_path, assign, assign_all, assign_attribute, assign_index, operate_attribute, or_attribute, and_attribute, operate_index, or_index, and_index, send, safe_send, yield, super, bare_super, bare_raise, statements, both, either, negated, if_else, while_loop, case_of, case_tests, return_with, break_with, next_with, retry, rescue, ensure, rescue_sequence, ensure_sequence, method, class, module_named, body, Trees, no_more, more, Other, without, with, Pairs, no_pair, pair, Pieces, no_piece, plain_piece, code_piece, Whens, no_when, when, Rescues, no_clause, clause, Params, no_param, required, optional, rest_param, block_param}
@@ -11,9 +10,9 @@ use Rattle.ruby_meaning.specs.Locals.{place_of, first_line_of}
 use Rattle.ruby_meaning.specs.Sequences.{places, form_places, trees_places, other_places, pairs_places, pieces_places, whens_places, clauses_places, params_places, sequence_number}
 use Rattle.ruby_meaning.specs.Levels.{IsHoused, FormHoused, BlockHoused, TreesHoused, OtherHoused, PairsHoused, PiecesHoused, WhensHoused, ClausesHoused, ParamsHoused}
 use Rattle.code_meaning.specs.Code.{Routine}
-use Rattle.compile_table.specs.Shapes.{Where, looped, number_of, in_rescue, in_ensure}
+use Rattle.compile_table.specs.Shapes.{Where, looped, in_rescue, in_ensure}
 use Rattle.compile_table.specs.Sequences.{Compiled, compiled_body, compiled_part, in_body, in_block, sequences, form_sequences, block_sequences, trees_sequences, other_sequences, pairs_sequences, pieces_sequences, whens_sequences, clauses_sequences, params_sequences}
-use Rattle.tree_laws.specs.Formed.{HasOneBlock, IsFormed, FormFormed, IsBody, IsBodyForm, BlockFormed, IsRescuePart, IsRescueForm, IsEnsurePart, IsEnsureForm, TreesFormed, OtherFormed, PairsFormed, PiecesFormed, WhensFormed, ClausesFormed, ParamsFormed}
+use Rattle.tree_laws.specs.Formed.{HasOneBlock, IsFormed, FormFormed, IsBody, IsBodyForm, BlockFormed, IsRescueForm, IsEnsureForm, TreesFormed, OtherFormed, PairsFormed, PiecesFormed, WhensFormed, ClausesFormed, ParamsFormed}
 use Rattle.compile_laws.specs.Finds.{part_routine, Finds, FindsForm, FindsTrees, FindsOther, FindsPairs, FindsPieces, FindsWhens, FindsRescueForm, FindsEnsureForm, FindsClauses, FindsParams, FindsBlock}
 use Rattle.compile_laws.specs.Found.{HasSequence, IsBodyKind, IsFoundBody}
 use Rattle.compile_laws.proofs.ByPlaces.{spots}
