@@ -16,3 +16,4 @@ pub mod FoundTrees
 pub mod FoundPrograms
 pub mod ProgramsRun
 pub mod ReadText
+pub mod Units
