@@ -45,8 +45,8 @@ pub fn runs_go_by_steps()
 /// Each turn of a machine with a list of frames keeps the outcome that its state leads to, and so do
 /// any number of turns.
 pub fn turns_keep_the_outcome()
-    ensures one { (files : Files) (b : Tree → Frame → Run) (seqs : ℕ → Routine) (bodies : ℕ → Tree) (s s1 : State) (o : Outcome) → Turn files b seqs bodies s s1 → Leads files b seqs bodies s o → Leads files b seqs bodies s1 o }
-    ensures all { (files : Files) (b : Tree → Frame → Run) (seqs : ℕ → Routine) (bodies : ℕ → Tree) (s s1 : State) (o : Outcome) → Turns files b seqs bodies s s1 → Leads files b seqs bodies s o → Leads files b seqs bodies s1 o }
+    ensures one { (files : Files) (b : Tree → Frame → Run) (s s1 : State) (o : Outcome) → Turn files b s s1 → Leads files b s o → Leads files b s1 o }
+    ensures all { (files : Files) (b : Tree → Frame → Run) (s s1 : State) (o : Outcome) → Turns files b s s1 → Leads files b s o → Leads files b s1 o }
 {}
 
 /// Where the environments outward have these names, the slot at a local's level is what its name finds:
