@@ -1,5 +1,5 @@
 //! What holds of every run, over the definitions alone.
-ghost use Rattle.std.specs.Prelude.{◌≡◌, ℕ, ◌+◌, ◌≤◌, ◌<◌, Bool, true, false, ◌||◌, List, [], map, length, is_some};
+ghost use Rattle.std.specs.Prelude.{◌≡◌, ℕ, ◌+◌, ◌≤◌, ◌<◌, Bool, true, false, ◌||◌, List, [], ◌∷◌, map, length, Option, is_some};
 ghost use Rattle.bs_outside.specs.SourceTree.{SourceTree, bytes_at};
 ghost use Rattle.ruby_tree.specs.Names.{Bytes};
 ghost use Rattle.ruby_tree.specs.Tree.{SourcePosition, Tree, at, super, bare_super, return_with, break_with, while_loop, rescue, Trees, Other};
@@ -7,6 +7,7 @@ ghost use Rattle.ruby_tree.specs.Placement.{Around, at_home, file};
 ghost use Rattle.ruby_meaning.specs.Value.{Value, Objects};
 ghost use Rattle.ruby_meaning.specs.Store.{cell_limit, each_once, line_of, superclasses, rows_of, find_in};
 ghost use Rattle.ruby_meaning.specs.World.{in_class, World, Frame, Spent, Run, world_of};
+ghost use Rattle.ruby_meaning.specs.Calls.{with_environment, next_environment};
 ghost use Rattle.ruby_meaning.specs.Files.{Files};
 ghost use Rattle.ruby_meaning.specs.Parts.{in_loop_of, handling};
 ghost use Rattle.ruby_meaning.specs.Evaluation.{run, eval, evaluate, loop, rescuing};
@@ -17,7 +18,9 @@ ghost use Rattle.ruby_meaning.specs.ClassGraph.{IsGraph};
 ghost use Rattle.reference_laws.specs.Placed.{IsPlaced};
 ghost use Rattle.ruby_meaning.specs.Stored.{IsStored, FrameFits, PlacedOut, StaysStored, ArePlaced, EndsAsProgram};
 ghost use Rattle.ruby_meaning.specs.RunLaws.{GainsNone, loop_turn, rescue_turn, last_of, Allowed, EndsOutside};
-ghost use Rattle.ruby_meaning.specs.Laws.{Grows, IsSound, EnvironmentsStay, ClosuresStay, given, given_out, IsOver, given_program, HasEnded};
+ghost use Rattle.ruby_meaning.specs.Laws.{names_in, Grows, IsSound, EnvironmentsStay, ClosuresStay, given, given_out, IsOver, given_program, HasEnded};
+ghost use Rattle.ruby_meaning.specs.Levels.{Scopes};
+ghost use Rattle.ruby_meaning.specs.InSight.{HaveNames, HasScopes};
 
 /// What each node does, as the table of nodes reads it, at any fuel and for any meaning of bodies;
 /// and an evaluation is such a run, in which bodies have one fuel less.
@@ -87,6 +90,13 @@ pub fn what_stands_stays()
     ensures environments { (files : Files) (t : Tree) (frame : Frame) (w : World) → EnvironmentsStay w.environments (world_of (evaluate files t frame w)).environments }
     ensures program_depth { (files : Files) (prelude : Tree) (p : Program) → (world_of (program_run files prelude p (start_world p))).depth ≡ 0 }
     ensures program_loading { (files : Files) (prelude : Tree) (p : Program) → (world_of (program_run files prelude p (start_world p))).loading ≡ [] }
+{}
+
+/// The environments outward of a frame keep their names where environments stay, so through each
+/// evaluation; and one that is opened has its own before those of its parent.
+pub fn scopes_are_kept()
+    ensures stay { (scopes : Scopes) (frame : Frame) (w z : World) → HasScopes scopes frame w → EnvironmentsStay w.environments z.environments → HasScopes scopes frame z }
+    ensures opened { (scopes : Scopes) (parent : Option ℕ) (locals : List (Bytes × Value)) (frame : Frame) (w : World) → frame.environment ≡ next_environment w → HaveNames (length w.environments) scopes w.environments parent → HasScopes (names_in locals ∷ scopes) frame (with_environment parent locals w) }
 {}
 
 /// A run ends as its frame lets it: a return leaves a method or file that is running, a break a
