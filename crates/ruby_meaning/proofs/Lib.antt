@@ -34,6 +34,7 @@ pub mod Longer
 pub mod Start
 pub mod Ends
 pub mod StoredPrograms
+pub mod PlacedFrames
 pub mod Constructs
 pub mod MoreTurns
 pub mod Plans

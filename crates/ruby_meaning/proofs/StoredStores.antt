@@ -37,7 +37,7 @@ pub running_on : (s t : Objects) → StoreLeads s t → (m : Option Running) →
 running_on s t l None h = tt
 running_on s t l (Some r) h = stays_class s t (class_of_place r.place) l h
 
-code_on : (s t : Objects) → StoreLeads s t → (code : Code) → CodeStored s code → CodeStored t code
+pub code_on : (s t : Objects) → StoreLeads s t → (code : Code) → CodeStored s code → CodeStored t code
 code_on s t l code h = record { placed = h.placed; classes = classes_on s t l code.classes h.classes }
 
 pub closure_on : (around : Around) (s t : Objects) → StoreLeads s t → (k : Closure) → StoredIn around s k → StoredIn around t k
