@@ -7,7 +7,7 @@ use Rattle.std.proofs.lemmas.Option.{same_Some}
 use Rattle.ruby_lexer.specs.Bytes.{same, is_in}
 use Rattle.ruby_tree.specs.Names.{Bytes}
 use Rattle.ruby_meaning.specs.Value.{Value}
-use Rattle.ruby_meaning.specs.Store.{named, has_name, with_name}
+use Rattle.ruby_meaning.specs.Store.{named, with_name}
 use Rattle.ruby_meaning.specs.World.{Environment, World, Frame}
 use Rattle.ruby_meaning.specs.Calls.{or_nil}
 use Rattle.ruby_meaning.specs.Definitions.{found_local, parent_in, or_zero, local_in, holder_in, read_local, with_local_set, set_local_in, set_local}

@@ -8,7 +8,7 @@ use Rattle.ruby_tree.specs.Placement as placement
 use Rattle.ruby_meaning.specs.Value.{Value, Code, MethodBody, written}
 use Rattle.ruby_meaning.specs.Store.{Place, Found, find_in}
 use Rattle.ruby_meaning.specs.Locals.{params_of, locals_of}
-use Rattle.ruby_meaning.specs.World.{Environment, Given, Running, Closure, World, Frame, Target, to_loop, Outcome, Break, world_of}
+use Rattle.ruby_meaning.specs.World.{Given, Running, Closure, World, Frame, to_loop, Break}
 use Rattle.ruby_meaning.specs.Calls.{bound, all_nil, with_names, with_environment, next_environment, method_frame, block_frame}
 use Rattle.ruby_meaning.specs.Files.{Files}
 use Rattle.ruby_meaning.specs.Loads.{file_body, file_code, file_frame}
@@ -19,15 +19,15 @@ use Rattle.ruby_meaning.specs.ClassGraph.{StoreLeads}
 use Rattle.ruby_meaning.specs.Laws.{names_in, EnvironmentsStay}
 use Rattle.ruby_meaning.specs.RunLaws.{Allowed}
 use Rattle.ruby_meaning.specs.Levels.{Scopes, Sight, file_sight, body_sight, names_seen, block_sight, IsHoused}
-use Rattle.ruby_meaning.specs.InSight.{HaveNames, InSight}
+use Rattle.ruby_meaning.specs.InSight.{HaveNames}
 use Rattle.reference_laws.specs.Placed.{home_of, IsPlaced}
-use Rattle.ruby_meaning.specs.Stored.{IsClass, AreClasses, BodyIs, class_of_place, CodeStored, StoredIn, ClosureStored, IsStored, FrameFits, StoredOut}
-use Rattle.ruby_meaning.specs.Housed.{CodeHoused, MadeIn, ClosureHoused, WorldHoused, HousedOut, InPlace}
+use Rattle.ruby_meaning.specs.Stored.{IsClass, AreClasses, BodyIs, class_of_place, CodeStored, StoredIn, ClosureStored, IsStored, FrameFits}
+use Rattle.ruby_meaning.specs.Housed.{CodeHoused, MadeIn, ClosureHoused, WorldHoused, InPlace}
 use Rattle.ruby_meaning.proofs.Leading.{stay_push}
 use Rattle.ruby_meaning.proofs.LocalNames.{names_nil, names_begin}
 use Rattle.ruby_meaning.proofs.Scopes.{names_open}
 use Rattle.ruby_meaning.proofs.StoredStores.{made_on}
-use Rattle.ruby_meaning.proofs.StoredWorlds.{Good, good_of, stored_of, housed_of, Moves, moves_rooms}
+use Rattle.ruby_meaning.proofs.StoredWorlds.{good_of, stored_of, housed_of, Moves, moves_rooms}
 use Rattle.ruby_meaning.proofs.StoredCalls.{FoundIs, find_is, closure_at}
 use Rattle.ruby_meaning.proofs.MadeFrames.{fits_on, sight_on, method_fits, method_sees, block_fits, block_sees, class_fits, class_sees, file_fits, file_sees, calling_fits, handling_fits, sequence_fits, part_fits, loop_fits, calling_sees, handling_sees, sequence_sees, loop_sees}
 

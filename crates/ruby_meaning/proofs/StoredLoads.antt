@@ -21,7 +21,7 @@ use Rattle.ruby_meaning.specs.Natives.Messages.{no_conversion, no_change}
 use Rattle.ruby_meaning.specs.Natives.Reading.{called}
 use Rattle.ruby_meaning.specs.World.{ruby_file, data_file, Given, no_block, Ask, ask_require, ask_relative, ask_load, Step, asked, loaded, World, Frame, Done, Run, text_of, elements_in, path_of, loaded_of}
 use Rattle.ruby_meaning.specs.Steps.{changing, stand}
-use Rattle.ruby_meaning.specs.Calls.{with_step, with_entry, all_nil, next_environment, variable_of}
+use Rattle.ruby_meaning.specs.Calls.{with_step, with_entry, all_nil, variable_of}
 use Rattle.ruby_meaning.specs.NativeAnswer.{NativeAnswer, itself, by_control, native_answer}
 use Rattle.ruby_meaning.specs.Files.{Files, RubyFile, no_ruby, ruby_fault, ruby_tree, DataFile, no_data_file, data_fault, data_value}
 use Rattle.ruby_meaning.specs.Search.{slash, resolve, Resolved, provided, found_at, missing, missing_name}

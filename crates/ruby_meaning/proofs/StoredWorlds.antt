@@ -1,5 +1,5 @@
 -- A world that is stored, and housed where that is asked, as one; and what it goes on to.
-use Rattle.std.proofs.Common.{◌≡◌, ℕ, ◌<◌, false, refl, sym, subst, ap, ◌∙◌, List, [], ◌∷◌, length}
+use Rattle.std.proofs.Common.{◌≡◌, ◌<◌, false, sym, subst, ◌∙◌, List, [], ◌∷◌, length}
 use Rattle.ruby_meaning.specs.Value.{Code, MethodBody, written, native, reader, writer, MethodRow, Class, Objects}
 use Rattle.ruby_meaning.specs.Numbers.{object_class, features}
 use Rattle.ruby_meaning.specs.Store.{kind_at, class_at, is_class_or_module}
