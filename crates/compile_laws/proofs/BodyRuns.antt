@@ -12,7 +12,7 @@ use Rattle.ruby_meaning.specs.Definitions.{set_local}
 use Rattle.ruby_meaning.specs.Evaluation.{run, run_defaults, evaluate}
 use Rattle.ruby_meaning.proofs.Fixed.{evaluation_is_fixed}
 use Rattle.code_meaning.specs.Code.{Routine, Shape, done, op, part, finish, Placed}
-use Rattle.code_meaning.specs.Slots.{HasScopes}
+use Rattle.ruby_meaning.specs.InSight.{HasScopes}
 use Rattle.code_meaning.specs.Machine.{goes, Runs}
 use Rattle.code_meaning.specs.Frames.{Tables, running, returning, Turns}
 use Rattle.code_meaning.proofs.Placing.{placed}

@@ -7,7 +7,7 @@ ghost use Rattle.ruby_meaning.specs.World.{World, Frame, Outcome};
 ghost use Rattle.ruby_meaning.specs.Files.{Files};
 ghost use Rattle.ruby_meaning.specs.Evaluation.{evaluate};
 ghost use Rattle.code_meaning.specs.Code.{Routine};
-ghost use Rattle.code_meaning.specs.Slots.{HasScopes};
+ghost use Rattle.ruby_meaning.specs.InSight.{HasScopes};
 ghost use Rattle.code_meaning.specs.Machine.{Runs};
 ghost use Rattle.code_meaning.specs.Frames.{Tables, running, returning, Turns};
 ghost use Rattle.compile_table.specs.Shapes.{Where};
