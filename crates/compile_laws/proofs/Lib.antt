@@ -11,3 +11,9 @@ pub mod RowsTrees
 pub mod RisingRow
 pub mod Keeps
 pub mod BodyRuns
+pub mod Enters
+pub mod CallsCome
+pub mod ClassesCome
+pub mod StepsCome
+pub mod FramesBegin
+pub mod FrameTurns

@@ -3,4 +3,6 @@
 
 pub mod alike;
 pub mod bodies;
+pub mod calls;
+pub mod frames;
 pub mod sound;
