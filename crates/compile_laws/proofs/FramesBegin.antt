@@ -31,17 +31,21 @@ use Rattle.compile_laws.specs.Calling.{one_deeper, with_cells, rest_value, with_
 
 -- No environment is made before a body's own.
 
-entry_if : (t : Bool) (load n : ℕ) (w : World) → (cond t w (with_step (entered load n) w)).environments ≡ w.environments
+abbrev but_trace : World → World → World
+but_trace w z = record w { trace = z.trace }
+
+entry_if : (t : Bool) (load n : ℕ) (w : World) → cond t w (with_step (entered load n) w) ≡ but_trace w (cond t w (with_step (entered load n) w))
 entry_if true load n w = refl
 entry_if false load n w = refl
 
-entry_keeps : (load n : ℕ) (w : World) → (with_entry load n w).environments ≡ w.environments
+-- an entry changes the trace alone
+pub entry_keeps : (load n : ℕ) (w : World) → with_entry load n w ≡ record w { trace = (with_entry load n w).trace }
 entry_keeps load n w = entry_if (is_entered load n w.trace) load n w
 
-enter_keeps : (source : Source) (place : ℕ) (w : World) → (enter source place w).environments ≡ w.environments
+pub enter_keeps : (source : Source) (place : ℕ) (w : World) → enter source place w ≡ record w { trace = (enter source place w).trace }
 enter_keeps source place w = by_load source.load
   where
-    by_load : (o : Option ℕ) → (enter_load o source place w).environments ≡ w.environments
+    by_load : (o : Option ℕ) → enter_load o source place w ≡ record w { trace = (enter_load o source place w).trace }
     by_load None = refl
     by_load (Some load) = entry_keeps load (sequence_number source.places place) w
 
@@ -91,7 +95,7 @@ module _ (unit : Tables) where
       → Begins unit l c.code.body (yielded_frame frame line c k vs turns w) (block_world c vs turns w)
   block_begins l scopes frame line k vs c turns w is h =
       let z : World = at_block c.code turns w in
-      let same_all : z.environments ≡ w.environments = enter_keeps c.code.source (place_of c.code.body) (one_deeper (with_turns turns w)) in
+      let same_all : z.environments ≡ w.environments = ap (λ y. y.environments) (enter_keeps c.code.source (place_of c.code.body) (one_deeper (with_turns turns w))) in
       record {
         no_loop = is.no_loop;
         no_clause = is.no_clause;

@@ -1,6 +1,6 @@
 //! How a call becomes a frame: what each call comes to, whatever bodies do. It is a body with the
 //! frame and the world in which it begins, or an outcome without one.
-ghost use Rattle.std.specs.Prelude.{◌≡◌, ℕ, suc, Bool, true, false, List, [], ◌∷◌, ◌++◌, length, Option, Some, None, is_some, slice_get, codes};
+ghost use Rattle.std.specs.Prelude.{◌≡◌, ℕ, suc, ◌+◌, Bool, true, false, List, [], ◌∷◌, ◌++◌, length, Option, Some, None, is_some, slice_get, codes};
 ghost use Rattle.ruby_tree.specs.Names.{Bytes};
 ghost use Rattle.ruby_tree.specs.Tree.{Tree};
 ghost use Rattle.iseq_types.specs.declared.instructions.Instr.TheVariants.{ObjToString, Send, InvokeSuper, InvokeBlock, DefineClass};
