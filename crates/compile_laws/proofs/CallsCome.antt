@@ -1,14 +1,13 @@
 -- Each call comes to a body, or to an outcome without one, whatever bodies do.
-use Rattle.std.proofs.Common.{◌≡◌, ℕ, zero, suc, Bool, true, false, refl, sym, ap, ◌∙◌, le-leb, arith, ◌&&◌, List, [], ◌∷◌, length, Option, Some, None}
+use Rattle.std.proofs.Common.{◌≡◌, ℕ, zero, suc, Bool, true, false, refl, ap, ◌∙◌, le-leb, arith, ◌&&◌, List, [], length, Option, Some, None}
 use Rattle.std.specs.Prelude.{slice_get, codes}
 use Rattle.std.proofs.lemmas.Option.{none-some, same_Some}
 use Rattle.bs_outside.specs.Paths.{parent_of}
 use Rattle.ruby_tree.specs.Names.{Bytes}
 use Rattle.ruby_tree.specs.Tree.{Tree}
-use Rattle.ruby_meaning.specs.NativeName.{Control, control_require, control_require_relative, control_load, control_gets, control_block_given, control_emit, control_throw, control_call, control_load_yaml, control_load_json, Native, control}
+use Rattle.ruby_meaning.specs.NativeName.{Control, control_require, control_require_relative, control_load, control_gets, control_block_given, control_emit, control_throw, control_call, control_load_yaml, control_load_json, control}
 use Rattle.ruby_meaning.specs.Value.{Value, nil, no, Code, MethodBody, written, native, reader, writer}
-use Rattle.ruby_meaning.specs.Numbers.{argument_error, type_error, load_error, object_class}
-use Rattle.ruby_meaning.specs.Native.{Count}
+use Rattle.ruby_meaning.specs.Numbers.{argument_error, type_error, load_error}
 use Rattle.ruby_meaning.specs.Natives.{control_count}
 use Rattle.ruby_meaning.specs.Natives.Messages.{no_conversion}
 use Rattle.ruby_meaning.specs.Natives.Reading.{called}
@@ -22,10 +21,10 @@ use Rattle.ruby_meaning.specs.Files.{Files, RubyFile, no_ruby, ruby_fault, ruby_
 use Rattle.ruby_meaning.specs.Blocks.{run_method, run_closure, run_block, run_given, no_block_given}
 use Rattle.ruby_meaning.specs.Search.{Resolved, provided, found_at, missing, missing_name, resolve}
 use Rattle.ruby_meaning.specs.Loads.{load_ruby, after_load, resolved, ask_for, cannot_load}
-use Rattle.ruby_meaning.specs.Invoke.{first_of, with_text, with_text_found, closure_of, call_closure, run_control, run_answer, run_native, run_found, run_if_found, call_method}
+use Rattle.ruby_meaning.specs.Invoke.{first_of, with_text, with_text_found, closure_of, call_closure, run_control, run_answer, run_found, run_if_found, call_method}
 use Rattle.ruby_meaning.specs.ClassBodies.{open_class}
-use Rattle.code_meaning.specs.Frames.{Wrap, of_method, of_block, of_class, of_file, after_file, wrapped}
-use Rattle.compile_laws.specs.Calling.{Comes, at_once, enters, outcome_of, ComesTo, has_depth, has_room, rest_fits, proc_fits, rest_of, with_rest_of, with_cells_of, HasRoomFor, IsFullFor, at_rest, at_environment, at_proc, closure_given, entering, takes, at_method, MayRunMethod, IsFresh, method_world, method_environment, method_entered, block_entered, class_entered, asked_entered, called_frame, at_block, taken, MayRunBlock, block_world, yielded_frame, at_class, MayOpen, loaded_code, at_file, MayLoad, file_environment, file_world, loaded_frame, searched, now_loading, asking}
+use Rattle.code_meaning.specs.Frames.{after_file}
+use Rattle.compile_laws.specs.Calling.{Comes, at_once, ComesTo, has_depth, has_room, rest_fits, proc_fits, rest_of, with_rest_of, with_cells_of, HasRoomFor, IsFullFor, at_rest, at_environment, at_proc, closure_given, entering, takes, at_method, IsFresh, method_entered, block_entered, class_entered, asked_entered, at_block, taken, at_class, at_file, MayLoad, searched, now_loading, asking}
 use Rattle.compile_laws.proofs.Enters as enter
 
 -- what a call comes to, if to anything
@@ -199,8 +198,11 @@ module _ (files : Files) (frame : Frame) (line : ℕ) where
       (λ e. so _ (enter.file_lost files frame line path w turns turn deep e))
       (λ n e. so _ (enter.file_at_fault files frame line path w turns turn n deep e))
       (λ t e. by_test (has_room (environment_cells (length (locals_of [] t))) (at_file path turns w))
-      (λ room. (asked_entered frame line ask path loading t turns w, (refl, refl, refl),
-      λ b. ap (after_file frame line ask path loading) (enter.file_enters files frame line path w turns t e (record { turn = turn; deep = deep; room = room }) b)))
+      (λ room. (
+        asked_entered frame line ask path loading t turns w,
+        (refl, refl, refl),
+        λ b. ap (after_file frame line ask path loading) (enter.file_enters files frame line path w turns t e (record { turn = turn; deep = deep; room = room }) b),
+      ))
       (λ f. so _ (enter.file_full files frame line path w turns turn t e deep f))))
       (λ e. so _ (enter.file_too_deep files frame line path w turns turn e)))
     where

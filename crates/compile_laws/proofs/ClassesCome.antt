@@ -1,5 +1,5 @@
 -- What `class` and `module` open, and that they come to its body or to an outcome without one.
-use Rattle.std.proofs.Common.{◌≡◌, ℕ, suc, ◌+◌, Bool, true, false, refl, ap, ◌∙◌, List, [], ◌∷◌, ◌++◌, Option, Some, None}
+use Rattle.std.proofs.Common.{◌≡◌, ℕ, ◌+◌, Bool, true, false, ap, ◌∙◌, [], ◌++◌, Option, Some, None}
 use Rattle.std.specs.Prelude.{codes}
 use Rattle.ruby_tree.specs.Names.{Bytes}
 use Rattle.ruby_tree.specs.Tree.{Tree}
@@ -10,7 +10,7 @@ use Rattle.ruby_meaning.specs.Constants.{own_constant, innermost, name_behind}
 use Rattle.ruby_meaning.specs.World.{World, Frame, Outcome, Full, Run}
 use Rattle.ruby_meaning.specs.Steps.{reading, changing, choose, make}
 use Rattle.ruby_meaning.specs.Definitions.{with_constant}
-use Rattle.ruby_meaning.specs.ClassBodies.{class_alone, module_alone, same_class, make_class, refused, no_superclass, not_a, open_found, class_or_new, module_or_new, unless_closed, if_same_superclass, below_base, with_base, class_below, class_named, module_of_name}
+use Rattle.ruby_meaning.specs.ClassBodies.{class_alone, module_alone, same_class, make_class, refused, no_superclass, not_a, open_found, class_or_new, module_or_new, if_same_superclass, below_base, with_base, class_below, class_named, module_of_name}
 use Rattle.compile_laws.specs.Calling.{has_room, class_made}
 use Rattle.compile_laws.proofs.Enters.{charged_room, charged_full}
 use Rattle.compile_laws.proofs.CallsCome.{Some_call, ends, same_call, by_test, by_option}

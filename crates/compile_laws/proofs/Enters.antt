@@ -1,23 +1,21 @@
 -- How a call comes to a body, or to an outcome without one: a test after another.
-use Rattle.std.proofs.Common.{◌≡◌, ℕ, zero, suc, ◌+◌, Bool, true, false, refl, sym, ap, ◌∙◌, List, [], ◌∷◌, ◌++◌, length, drop, Option, Some, None}
-use Rattle.std.specs.Prelude.{min, ◌-◌, slice_get, codes}
+use Rattle.std.proofs.Common.{◌≡◌, ℕ, zero, suc, Bool, true, false, refl, ap, ◌∙◌, List, [], length, Option, Some, None}
+use Rattle.std.specs.Prelude.{slice_get, codes}
 use Rattle.ruby_tree.specs.Names.{Bytes}
 use Rattle.ruby_tree.specs.Tree.{Tree}
-use Rattle.ruby_meaning.specs.Value.{Value, yes, no, nil, object, Code, elements, closed}
+use Rattle.ruby_meaning.specs.Value.{Value, object, Code, elements, closed}
 use Rattle.ruby_meaning.specs.Numbers.{argument_error, system_stack_error, local_jump_error, load_error, syntax_error}
 use Rattle.ruby_meaning.specs.Store.{array_cells, proc_cells, environment_cells, new_object, Place}
 use Rattle.ruby_meaning.specs.Locals.{place_of, params_of, locals_of}
-use Rattle.ruby_meaning.specs.World.{Given, no_block, literal_block, given_proc, Closure, World, Frame, Outcome, Done, Spent, Full, Run, ruby_file, loaded, Ask, ask_require, ask_relative, ask_load, path_of, loaded_of}
-use Rattle.ruby_meaning.specs.Steps.{reading, changing, choose, pay, paid_from, charge, charged, make, deeper, deeper_if, ended, at_depth, returned, gone_on, raise_new, then_do}
-use Rattle.ruby_meaning.specs.Calls.{with_step, with_entry, enter, count_of_params, fits, wrong_count, with_rest, proc_of, with_block_param, with_locals, bound, has_block_param, all_nil, with_names, with_environment, next_environment, optional_given, block_arguments}
+use Rattle.ruby_meaning.specs.World.{Given, no_block, literal_block, given_proc, Closure, World, Frame, Spent, Full, Run, ruby_file, loaded}
+use Rattle.ruby_meaning.specs.Steps.{reading, changing, choose, pay, paid_from, charge, charged, make, deeper, deeper_if, ended, at_depth, raise_new}
+use Rattle.ruby_meaning.specs.Calls.{with_step, enter, count_of_params, wrong_count, with_rest, with_block_param, with_locals, bound, has_block_param, all_nil, with_names, with_environment, next_environment, optional_given, block_arguments}
 use Rattle.ruby_meaning.specs.Files.{Files, RubyFile, no_ruby, ruby_fault, ruby_tree}
-use Rattle.ruby_meaning.specs.Blocks.{in_method_frame, run_method, in_block_frame, run_closure, run_block, run_given}
+use Rattle.ruby_meaning.specs.Blocks.{in_method_frame, run_method, in_block_frame, run_closure, run_block}
 use Rattle.ruby_meaning.specs.ClassBodies.{class_frame, open_class}
-use Rattle.ruby_meaning.specs.Search.{Resolved, provided, found_at, missing, missing_name, resolve}
-use Rattle.ruby_meaning.specs.Loads.{cannot_load, fault_at, file_code, in_file_frame, run_code, ruby_loaded, load_ruby, next_load, after_load, resolved, ask_for, with_loading}
+use Rattle.ruby_meaning.specs.Loads.{cannot_load, fault_at, in_file_frame, ruby_loaded, load_ruby, next_load}
 use Rattle.ruby_meaning.specs.PlainRun.{with_turns}
-use Rattle.code_meaning.specs.Frames.{Wrap, of_method, of_block, of_class, of_file, wrapped}
-use Rattle.compile_laws.specs.Calling.{Comes, at_once, enters, ComesTo, one_deeper, has_depth, has_room, with_cells, rest_fits, rest_value, with_rest_made, proc_fits, proc_value, with_proc_made, rest_of, with_rest_of, with_cells_of, with_proc_of, locals_made, environment_of, with_locals_made, HasRoomFor, entering, takes, at_method, MayRunMethod, method_world, method_environment, method_entered, block_entered, class_entered, file_entered, called_frame, at_block, taken, MayRunBlock, block_world, block_environment, yielded_frame, at_class, MayOpen, class_world, opened_frame, loaded_code, at_file, MayLoad, file_environment, file_world, loaded_frame, searched, now_loading}
+use Rattle.compile_laws.specs.Calling.{ComesTo, one_deeper, has_depth, has_room, with_cells, rest_fits, rest_value, with_rest_made, proc_fits, proc_value, with_proc_made, rest_of, with_rest_of, with_cells_of, environment_of, with_locals_made, HasRoomFor, entering, takes, at_method, MayRunMethod, method_entered, block_entered, class_entered, file_entered, at_block, taken, MayRunBlock, at_class, MayOpen, loaded_code, at_file, MayLoad}
 
 -- Cells, and what is made of them.
 

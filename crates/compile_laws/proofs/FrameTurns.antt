@@ -1,5 +1,5 @@
 -- The turns of a machine at a call: a frame goes on top, or the caller goes on with an outcome; and the file of a program.
-use Rattle.std.proofs.Common.{◌≡◌, ℕ, suc, ◌+◌, ◌≤◌, Bool, true, false, refl, sym, subst, ap, ◌∙◌, arith, List, [], ◌∷◌, length, Option, Some, None}
+use Rattle.std.proofs.Common.{◌≡◌, ℕ, suc, ◌+◌, ◌≤◌, true, sym, subst, ap, ◌∙◌, arith, List, [], ◌∷◌, length, Option, Some, None}
 use Rattle.std.specs.Prelude.{slice_get, is_some}
 use Rattle.ruby_tree.specs.Names.{Bytes}
 use Rattle.ruby_tree.specs.Tree.{Tree}
@@ -9,7 +9,7 @@ use Rattle.ruby_meaning.specs.Value.{Value, Code, written}
 use Rattle.ruby_meaning.specs.Store.{environment_cells, Place, find_method}
 use Rattle.ruby_meaning.specs.Locals.{locals_of}
 use Rattle.ruby_meaning.specs.World.{ruby_file, loaded, Given, no_block, Closure, World, Frame, Outcome, Run}
-use Rattle.ruby_meaning.specs.Steps.{then_do, then, charge, charged, changing, reading, at_depth, ended, returned, stand}
+use Rattle.ruby_meaning.specs.Steps.{then_do, then, changing, reading, returned, stand}
 use Rattle.ruby_meaning.specs.Calls.{with_step, spread, optional_given, all_nil, with_environment, next_environment}
 use Rattle.ruby_meaning.specs.Files.{Files, ruby_tree}
 use Rattle.ruby_meaning.specs.Loads.{file_body, file_code, file_frame, in_file_frame, run_code, load_ruby, next_load}
@@ -17,7 +17,7 @@ use Rattle.ruby_meaning.specs.Invoke.{run_if_found}
 use Rattle.ruby_meaning.specs.Levels.{Scopes}
 use Rattle.ruby_meaning.specs.InSight.{HaveNames}
 use Rattle.ruby_meaning.specs.Evaluation.{eval, evaluate}
-use Rattle.ruby_meaning.specs.PlainRun.{Program, top_frame, start_cells, start_world, with_turns, program_run}
+use Rattle.ruby_meaning.specs.PlainRun.{Program, top_frame, start_cells, with_turns, program_run}
 use Rattle.ruby_meaning.proofs.Same.{enough}
 use Rattle.code_meaning.specs.Code.{at_line, Routine, rows_at}
 use Rattle.code_meaning.specs.Machine.{is_valued, is_bare, call_answer, Runs}
@@ -25,7 +25,7 @@ use Rattle.code_meaning.specs.Frames.{Wrap, of_method, of_block, wrapped, Tables
 use Rattle.compile_table.specs.Shapes.{Where}
 use Rattle.compile_laws.specs.Finds.{body_routine, start_of}
 use Rattle.compile_laws.specs.Begins.{Begins, IsCodeAt}
-use Rattle.compile_laws.specs.Calling.{entering, MayRunMethod, method_environment, method_world, called_frame, method_entered, MayRunBlock, block_world, yielded_frame, block_entered, given_by, closure_given, calling_frame, calling_given, calling_world, pushed, with_block_value, at_once, enters, has_room, one_deeper, with_cells, MayLoad, at_file, file_environment, file_world, loaded_code, loaded_frame, StepCalls}
+use Rattle.compile_laws.specs.Calling.{entering, MayRunMethod, method_environment, method_world, called_frame, method_entered, MayRunBlock, block_world, yielded_frame, block_entered, given_by, closure_given, calling_frame, calling_given, calling_world, pushed, with_block_value, at_once, enters, has_room, one_deeper, with_cells, MayLoad, file_environment, file_world, loaded_code, loaded_frame, StepCalls}
 use Rattle.compile_laws.proofs.BodyRuns.{body_runs}
 use Rattle.compile_laws.proofs.FramesBegin.{entry_keeps, method_begins, block_begins}
 use Rattle.compile_laws.proofs.Enters.{charged_room, method_enters, block_enters, file_enters}

@@ -1,33 +1,27 @@
 -- The frames that calls make begin as their sequences ask.
-use Rattle.std.proofs.Common.{◌≡◌, ℕ, zero, suc, Bool, true, false, refl, sym, subst, ap, ◌∙◌, List, [], ◌∷◌, ◌++◌, length, Option, Some, None}
+use Rattle.std.proofs.Common.{◌≡◌, ℕ, Bool, true, false, refl, sym, subst, ap, ◌∙◌, List, [], ◌∷◌, length, Option, Some, None}
 use Rattle.std.specs.Prelude.{cond}
 use Rattle.ruby_tree.specs.Names.{Bytes}
 use Rattle.ruby_tree.specs.Tree.{Tree}
-use Rattle.iseq_types.specs.declared.sequences.SeqKind.{SeqKind}
 use Rattle.ruby_meaning.specs.Value.{Value, Source, Code}
 use Rattle.ruby_meaning.specs.Store.{Place, environment_cells}
 use Rattle.ruby_meaning.specs.Locals.{place_of, params_of, locals_of, seen_by}
 use Rattle.ruby_meaning.specs.World.{Given, no_block, literal_block, given_proc, Environment, Closure, World, Frame, entered}
 use Rattle.ruby_meaning.specs.Sequences.{sequence_number}
 use Rattle.ruby_meaning.specs.Calls.{is_entered, with_step, with_entry, enter_load, enter, count_of_params, has_block_param, all_nil, with_environment, next_environment, optional_given}
-use Rattle.ruby_meaning.specs.Files.{Files}
 use Rattle.ruby_meaning.specs.Definitions.{code_of, closure_here}
 use Rattle.ruby_meaning.specs.Loads.{file_body, file_code, file_frame}
-use Rattle.ruby_meaning.specs.Laws.{names_in}
 use Rattle.ruby_meaning.specs.Levels.{Scopes}
-use Rattle.ruby_meaning.specs.Evaluation.{evaluate}
 use Rattle.ruby_meaning.proofs.LocalNames.{names_nil, names_begin}
 use Rattle.ruby_meaning.specs.PlainRun.{with_turns}
-use Rattle.code_meaning.specs.Code.{Routine}
 use Rattle.ruby_meaning.specs.InSight.{HaveNames, HasScopes}
-use Rattle.code_meaning.specs.Machine.{Runs}
 use Rattle.code_meaning.specs.Frames.{Tables}
 use Rattle.ruby_meaning.proofs.Scopes.{scopes_open}
 use Rattle.compile_table.specs.Shapes.{Where}
 use Rattle.compile_table.specs.Sequences.{in_file, in_body, in_block}
-use Rattle.compile_laws.specs.Finds.{FindsBody, StandsIn, body_routine, start_of}
+use Rattle.compile_laws.specs.Finds.{FindsBody, StandsIn}
 use Rattle.compile_laws.specs.Begins.{Begins, IsCodeAt}
-use Rattle.compile_laws.specs.Calling.{one_deeper, with_cells, rest_value, with_rest_made, proc_value, with_proc_made, rest_of, with_rest_of, with_cells_of, with_proc_of, locals_made, environment_of, with_locals_made, entering, at_method, method_world, called_frame, at_block, taken, block_world, yielded_frame, at_class, class_world, opened_frame, at_file, file_world, loaded_frame}
+use Rattle.compile_laws.specs.Calling.{one_deeper, with_cells, rest_value, with_rest_made, proc_value, with_proc_made, rest_of, with_cells_of, with_proc_of, locals_made, environment_of, with_locals_made, at_method, method_world, called_frame, at_block, taken, block_world, yielded_frame, at_class, class_world, opened_frame}
 
 -- No environment is made before a body's own.
 
@@ -133,7 +127,15 @@ module _ (unit : Tables) where
   -- the code of a method and of a block that a frame makes where it stands
   pub method_code_stands : (l : Where) (frame : Frame) (t : Tree) → StandsIn l frame → FindsBody unit.seqs unit.bodies (in_body l t) t → IsCodeAt unit (in_body l t) [] (code_of frame t)
   method_code_stands l frame t sd fs = record {
-    no_loop = refl; no_clause = refl; first = refl; path = sd.of_path; places = sd.of_places; body = refl; locals = refl; sight = refl; finds = fs;
+    no_loop = refl;
+    no_clause = refl;
+    first = refl;
+    path = sd.of_path;
+    places = sd.of_places;
+    body = refl;
+    locals = refl;
+    sight = refl;
+    finds = fs;
   }
 
   pub block_code_stands : (l : Where) (frame : Frame) (t : Tree) → StandsIn l frame → frame.code.seen ≡ l.sight.seen → FindsBody unit.seqs unit.bodies (in_block l t) t

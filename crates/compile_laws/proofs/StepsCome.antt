@@ -1,5 +1,5 @@
 -- Which steps of a frame are calls, and what each of them comes to.
-use Rattle.std.proofs.Common.{◌≡◌, ℕ, zero, suc, ◌+◌, Bool, true, false, refl, ap, ◌∙◌, arith, List, [], ◌∷◌, ◌++◌, length, Option, Some, None}
+use Rattle.std.proofs.Common.{◌≡◌, ℕ, zero, suc, ◌+◌, Bool, true, false, refl, ap, ◌∙◌, List, [], ◌∷◌, length, Option, Some, None}
 use Rattle.std.specs.Prelude.{nat_eq, codes, slice_get, is_some}
 use Rattle.std.proofs.lemmas.Option.{same_Some}
 use Rattle.ruby_tree.specs.Names.{Bytes}
@@ -11,21 +11,21 @@ use Rattle.iseq_types.specs.declared.sequences.SeqKind.{SeqKind}
 use Rattle.iseq_types.specs.declared.sequences.SeqKind as kinds
 use Rattle.ruby_meaning.specs.Value.{Value}
 use Rattle.ruby_meaning.specs.Numbers.{type_error}
-use Rattle.ruby_meaning.specs.Store.{Found, find_method, name_of_class_of}
-use Rattle.ruby_meaning.specs.World.{Given, no_block, literal_block, given_proc, Running, World, Frame, Outcome, Run}
+use Rattle.ruby_meaning.specs.Store.{name_of_class_of}
+use Rattle.ruby_meaning.specs.World.{Given, no_block, Running, World, Frame, Outcome, Run}
 use Rattle.ruby_meaning.specs.Steps.{reading, raise_new}
 use Rattle.ruby_meaning.specs.Calls.{spread, no_method}
 use Rattle.ruby_meaning.specs.Files.{Files}
-use Rattle.ruby_meaning.specs.Blocks.{run_given, run_block}
-use Rattle.ruby_meaning.specs.Invoke.{run_found, run_if_found, call_method}
+use Rattle.ruby_meaning.specs.Blocks.{run_given}
+use Rattle.ruby_meaning.specs.Invoke.{run_if_found, call_method}
 use Rattle.ruby_meaning.specs.ClassBodies.{open_class, class_named, class_below, module_of_name}
-use Rattle.ruby_meaning.specs.Parts.{given_of, given_found, given_value, super_found, wrong_block}
+use Rattle.ruby_meaning.specs.Parts.{given_of, given_found, super_found, wrong_block}
 use Rattle.ruby_meaning.specs.Evaluation.{send_with, super_with}
 use Rattle.code_meaning.specs.Code.{at_line, Routine}
-use Rattle.code_meaning.specs.Machine.{Step, stuck, answer, call_answer, with_top, with_args, with_value, is_valued, is_bare, value_given, block_given, sent, super_to_method, super_sent, path_by, method_by, opened, class_by, goes_on_pending, thrown_with, thrown_at, act, act_at, step}
-use Rattle.code_meaning.specs.Frames.{wrapped, Tables}
-use Rattle.compile_laws.specs.Calling.{Comes, at_once, enters, outcome_of, IsFresh, ComesTo, given_by, calling_frame, calling_given, calling_world, pushed, with_block_value, StepCalls, StepComes, same_step, calls_body}
-use Rattle.compile_laws.proofs.CallsCome.{Some_call, ends, same_call, by_option, given_comes, class_comes, found_comes, if_found_comes, call_comes}
+use Rattle.code_meaning.specs.Machine.{Step, stuck, answer, call_answer, with_top, with_args, with_value, is_valued, is_bare, value_given, block_given, sent, super_to_method, super_sent, path_by, method_by, class_by, goes_on_pending, thrown_with, thrown_at, act, act_at, step}
+use Rattle.code_meaning.specs.Frames.{Tables}
+use Rattle.compile_laws.specs.Calling.{Comes, at_once, enters, IsFresh, ComesTo, given_by, calling_frame, calling_given, calling_world, pushed, with_block_value, StepCalls, StepComes, same_step, calls_body}
+use Rattle.compile_laws.proofs.CallsCome.{Some_call, ends, same_call, by_option, given_comes, class_comes, if_found_comes, call_comes}
 use Rattle.compile_laws.proofs.ClassesCome.{class_named_comes, class_below_comes, module_comes}
 use Rattle.compile_laws.proofs.Stack.{args_off}
 

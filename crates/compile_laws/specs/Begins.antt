@@ -1,6 +1,5 @@
 -- A frame and a world in which a body begins, so that its sequence does what the body means; and the codes whose frames begin so.
-use Rattle.std.specs.Prelude.{◌≡◌, ℕ, false, List, ◌∷◌}
-use Rattle.ruby_tree.specs.Names.{Bytes}
+use Rattle.std.specs.Prelude.{◌≡◌, false, ◌∷◌}
 use Rattle.ruby_tree.specs.Tree.{Tree}
 use Rattle.ruby_meaning.specs.Value.{Code}
 use Rattle.ruby_meaning.specs.Locals.{first_line_of, locals_of}
