@@ -17,3 +17,9 @@ pub mod FoundPrograms
 pub mod ProgramsRun
 pub mod ReadText
 pub mod Units
+pub mod Enters
+pub mod CallsCome
+pub mod ClassesCome
+pub mod StepsCome
+pub mod FramesBegin
+pub mod FrameTurns

@@ -7,10 +7,12 @@ use Rattle.iseq_types.specs.declared.sequences.SeqKind.TheVariants as kinds
 use Rattle.ruby_meaning.specs.Locals.{place_of, first_line_of, locals_of}
 use Rattle.ruby_meaning.specs.Sequences.{places}
 use Rattle.ruby_meaning.specs.Levels.{Sight, file_sight, body_sight, block_sight}
+use Rattle.ruby_meaning.specs.Value.{Code}
 use Rattle.ruby_meaning.specs.World.{World, Frame}
 use Rattle.ruby_meaning.specs.Calls.{all_nil, with_environment, next_environment}
 use Rattle.ruby_meaning.specs.Loads.{file_code, file_frame}
 use Rattle.code_meaning.specs.Code.{Routine}
+use Rattle.code_meaning.specs.Frames.{Tables}
 use Rattle.compile_table.specs.Shapes.{Where, in_rescue, in_ensure}
 use Rattle.compile_table.specs.Sequences.{in_file, in_body, in_block, Compiled, routine_of, sequence_at, routines, bodies}
 use Rattle.compile_laws.specs.Finds.{body_routine, FindsBody}
@@ -63,9 +65,21 @@ pub record IsOfProgram (path : Bytes) (t : Tree) (c : Compiled) : Type 0 where
   pub stands : IsBodyKind c.kind → c.inner ≡ where_in path t c.kind (sequence_at path t c.parent).inner c.tree
   pub body : IsBodyKind c.kind → IsFoundBody (routines path t) (bodies path t) c
 
--- The frame that a load gives to the body of a file in this world, and the world with the environment of that frame.
-abbrev pub loaded_frame : Bytes → Option ℕ → Tree → Option (Bytes × ℕ) → List ℕ → List ℕ → World → Frame
-loaded_frame path load t outside inside calling w = file_frame (file_code path load t) (next_environment w) outside inside calling
+-- The tables of a program.
+abbrev pub tables : Bytes → Tree → Tables
+tables path t = record { seqs = routines path t; bodies = bodies path t }
 
-abbrev pub loaded_world : Tree → World → World
-loaded_world t w = with_environment None (all_nil (locals_of [] t)) w
+-- The frame in which the body of a file begins in this world, and the world with the environment of that frame.
+abbrev pub entry_frame : Bytes → Option ℕ → Tree → Option (Bytes × ℕ) → List ℕ → List ℕ → World → Frame
+entry_frame path load t outside inside calling w = file_frame (file_code path load t) (next_environment w) outside inside calling
+
+abbrev pub entry_world : Tree → World → World
+entry_world t w = with_environment None (all_nil (locals_of [] t)) w
+
+-- The code of this body in this file: it sees these locals around it, and has those of the body.
+pub record IsCodeOf (path : Bytes) (places : List ℕ) (seen : List Bytes) (t : Tree) (code : Code) : Type 0 where
+  pub body : code.body ≡ t
+  pub in_file : code.source.path ≡ path
+  pub in_places : code.source.places ≡ places
+  pub sees : code.seen ≡ seen
+  pub locals : code.locals ≡ locals_of code.seen code.body

@@ -4,4 +4,6 @@
 pub mod alike;
 pub mod bodies;
 pub mod found;
+pub mod calls;
+pub mod frames;
 pub mod sound;
