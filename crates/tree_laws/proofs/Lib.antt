@@ -10,3 +10,8 @@ pub mod HousedParts
 pub mod HousedStatements
 pub mod LocalsHeld
 pub mod Numbering
+pub mod Ascending
+pub mod Spans
+pub mod SpanParts
+pub mod SpanStatements
+pub mod Nests

@@ -10,6 +10,7 @@ ghost use Rattle.ruby_tree.specs.Tree.{Tree};
 ghost use Rattle.ruby_tree.specs.Reading.{Reads};
 ghost use Rattle.ruby_meaning.specs.Sequences.{places, sequence_number};
 ghost use Rattle.tree_laws.specs.Numbering.{Has};
+ghost use Rattle.tree_laws.specs.Nesting.{Nested};
 ghost use Rattle.ruby_meaning.specs.Levels.{file_sight, IsHoused};
 
 /// No two sequences of a text's tree begin at one place, so that their numbers tell them apart; and
@@ -30,4 +31,11 @@ pub fn locals_are_held()
 /// that begins behind it.
 pub fn sequence_numbers_rise()
     ensures rise { (places : List ℕ) (q p : ℕ) → Has q places → q < p → sequence_number places q < sequence_number places p }
+{}
+
+/// Each body and each block of a text's tree begins a sequence, and each sequence within another one
+/// begins behind it. A rescue or ensure part begins behind all that begins in what it protects. So
+/// the number of a sequence is greater than those of the sequences around it.
+pub fn sequences_nest()
+    ensures nested { (source : Bytes) (t : Tree) → Reads source t → Nested t }
 {}
