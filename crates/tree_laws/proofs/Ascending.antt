@@ -1,5 +1,5 @@
 -- The tokens of a text, within literals too, begin at places that rise.
-use Rattle.std.proofs.Common.{◌≡◌, ℕ, zero, suc, ◌≤◌, ◌<◌, [], ◌∷◌, length, drop, Bool, true, false, inl, inr, refl, sym, arith, subst, if◌then◌else◌}
+use Rattle.std.proofs.Common.{◌≡◌, ℕ, zero, suc, ◌≤◌, ◌<◌, [], ◌∷◌, length, drop, Bool, true, false, inl, inr, sym, arith, subst, if◌then◌else◌}
 use Rattle.std.specs.Prelude.{⊤}
 use Rattle.ruby_lexer.specs.declared.class.Class.{Class}
 use Rattle.ruby_lexer.specs.declared.class.Class.TheVariants.{DoubleQuote, Colon}

@@ -2,16 +2,16 @@
 use Rattle.std.proofs.Common.{◌≡◌, refl, ℕ, suc, ◌≤◌, Bool, true, false, List, [], ◌∷◌, ◌++◌, if◌then◌else◌, ◌&&◌, codes, Option}
 use Rattle.ruby_lexer.specs.Bytes.{Bytes, same}
 use Rattle.ruby_lexer.specs.Pieces.{Parts, Toks, keyword, mark}
-use Rattle.ruby_tree.specs.Tree.{SourcePosition, Goal, Tree, at, bare_raise, send, constant_path, rescue, ensure, rescue_sequence, ensure_sequence, Trees, no_more, Pairs, Pieces, Other, without, with, Whens, Rescues, Params}
+use Rattle.ruby_tree.specs.Tree.{SourcePosition, Goal, Tree, at, bare_raise, send, constant_path, rescue, ensure, rescue_sequence, ensure_sequence, class, body, Trees, no_more, Pairs, Pieces, Other, without, with, Whens, Rescues, Params, no_param}
 use Rattle.ruby_tree.specs.Rules.{Scope, DoBlockOwner, next, place_at, position, position_with, word, is_mark, is_word}
 use Rattle.ruby_tree.specs.Build.{Given, or_empty, call_form, bare_form, path_with, symbol_block, texts_at, symbols_at}
 use Rattle.ruby_tree.specs.Grammar.{Rels, Trailing, Then, LoopStart, Newlines, MethodName, BlockParams, Bars, ExceptionName, MoreTargets, Targets, OnSelf, Several, Element, Elements, Pair, PairList, Passed, Items, InBrackets, CommandItems, Classes, Clauses, Else, Rescued, Body, DoBlock, Block, CallBlock, CommandBlock, CallItems, TextParts, ElseBranches, WhenList, MethodParams, ParameterList, Parameters, Superclass, Literal, Primary, Postfixes, Postfix}
 use Rattle.ruby_tree.specs.Grammar as g
 use Rattle.reference_parser.proofs.Tests.{mark_kind, word_kind}
-use Rattle.ruby_meaning.specs.Sequences.{places, trees_places, other_places, pairs_places, pieces_places, whens_places, clauses_places, params_places}
-use Rattle.tree_laws.specs.Nesting.{Nested, TreesNested, OtherNested, BlockNested, ClausesNested, Begins}
+use Rattle.ruby_meaning.specs.Sequences.{places, trees_places, other_places, clauses_places, params_places}
+use Rattle.tree_laws.specs.Nesting.{Nested, TreesNested, OtherNested, BlockNested, ClausesNested, ParamsNested, Begins}
 use Rattle.tree_laws.proofs.Ascending.{PartsAscending, parts_lower}
-use Rattle.tree_laws.proofs.Spans.{Span, TreeSpan, TreesSpan, OtherSpan, BlockSpan, still, turned, wait, earlier, ◌⊕◌, ◌⊗◌, stay, begun, begun_before, passed, Fits, fits_lower, past, Spent, spent, spent_literal, Got, got, GotTree, GotTrees, GotOther, GotBlock, GotBody, GotPairs, GotWhens, GotClauses, GotParams, GotTwo, got_two, GotGiven, got_given, GotText}
+use Rattle.tree_laws.proofs.Spans.{Span, TreeSpan, TreesSpan, OtherSpan, BlockSpan, still, turned, wait, earlier, ◌⊕◌, ◌⊗◌, stay, begun, begun_before, passed, Fits, fits_lower, past, Spent, spent, spent_literal, got, GotTree, GotTrees, GotOther, GotBlock, GotBody, GotPairs, GotWhens, GotClauses, GotParams, GotTwo, got_two, GotGiven, got_given, GotText}
 
 abbrev GotFor : ℕ → Given → ℕ → Toks → Type 0
 GotFor top c l r = GotGiven top c.trees c.value c.block l r
@@ -65,6 +65,17 @@ rescue_spans o q t rs v a low c n = turned (λ k. (k, (refl, passed low a))) (a 
 -- statements and an ensure clause, which begins at q
 ensure_spans : (o : SourcePosition) (q : Toks) (t u : Tree) {l j m : ℕ} → TreeSpan t l j → j ≤ place_at q → TreeSpan u (suc (place_at q)) m → TreeSpan (at o (ensure t (at (position q) (ensure_sequence u)))) l m
 ensure_spans o q t u a low n = turned (λ k. (k, (refl, passed low a))) (a ⊕ begun low n)
+
+-- a body that begins with the first token of w
+abbrev BodySpan : Toks → Params → Tree → ℕ → ℕ → Type 0
+BodySpan w ps t l m = Span (Nested (at (position w) (body ps t)) × Begins (at (position w) (body ps t))) (places (at (position w) (body ps t))) l m
+
+body_spans : (w : Toks) (ps : Params) (t : Tree) {l j m : ℕ} → l ≤ place_at w → Span (ParamsNested ps) (params_places ps) (suc (place_at w)) j → TreeSpan t j m → BodySpan w ps t l m
+body_spans w ps t low a b = turned (λ k. (k, refl)) (begun low (a ⊕ b))
+
+-- a class that begins with the first token of w, and its superclass
+class_spans : (w : Toks) (v : Other) (x : Bytes) (t : Tree) {l j m : ℕ} → l ≤ place_at w → OtherSpan v (suc (place_at w)) j → TreeSpan t j m → TreeSpan (at (position w) (class v x (at (position w) (body no_param t)))) l m
+class_spans w v x t low a b = turned (λ k. (k.0, (k.1, refl))) (begun_before low a (still ⊕ b))
 
 -- the block of a symbol, in which no sequence begins
 symbol_nested : (w : Toks) (m : Bytes) → BlockNested (with (symbol_block w m))
@@ -200,18 +211,18 @@ module _ (source : Bytes) where
         got (ensure_spans o q u v a.part b.low n.part) n.rest
 
     pub span_do_block : {s z : Scope} {t : Tree} {w r : Toks} {top l : ℕ} → DoBlock source R w s t r z → Fits top l w → GotBody top t l r
-    span_do_block (g.DoBlock.block {w = w} h b i c) e =
+    span_do_block (g.DoBlock.block {w = w} {ps = qs} {t = u} h b i c) e =
         let n = word_spent (codes "do") w h e in
         let ps = span_bars b n.rest in
         let a = span_body i ps.rest in
-        got (turned (λ k. (k, refl)) (begun n.low (ps.part ⊕ a.part))) (past a.rest)
+        got (body_spans w qs u n.low ps.part a.part) (past a.rest)
 
     pub span_block : {d : DoBlockOwner} {s z : Scope} {t : Tree} {w r : Toks} {top l : ℕ} → Block source R d w s t r z → Fits top l w → GotBody top t l r
-    span_block (g.Block.braces {w = w} h b i c) e =
+    span_block (g.Block.braces {w = w} {ps = qs} {t = u} h b i c) e =
         let n = mark_spent (codes "{") w h e in
         let ps = span_bars b n.rest in
         let a = S.stmts i ps.rest in
-        got (turned (λ k. (k, refl)) (begun n.low (ps.part ⊕ a.part))) (past a.rest)
+        got (body_spans w qs u n.low ps.part a.part) (past a.rest)
     span_block (g.Block.with_do h i) e = span_do_block i e
 
     pub span_call_block : {c : Given} {d : DoBlockOwner} {s z : Scope} {b : Other} {w r : Toks} {top k l : ℕ} → CallBlock source R d c w s b r z → BlockSpan c.block k l → Fits top l w → GotBlock top b k r
@@ -318,20 +329,20 @@ module _ (source : Bytes) where
     span_primary (g.Primary.case_form h i j k n m) e =
         let a = S.expr i (past e) in let ws = span_whens k (span_newlines j a.rest) in let v = span_else n ws.rest in got (a.part ⊕ (ws.part ⊕ v.part)) (past v.rest)
     span_primary (g.Primary.case_of_tests h j k n m) e = let ws = span_whens k (span_newlines j (past e)) in let v = span_else n ws.rest in got (ws.part ⊕ v.part) (past v.rest)
-    span_primary (g.Primary.method_form {w = w} h i j k n m) e =
+    span_primary (g.Primary.method_form {w = w} {ps = qs} {t = u} h i j k n m) e =
         let b = word_spent (codes "def") w h e in
         let ps = span_parameters k (span_method_name j (span_on_self i b.rest)) in
         let a = span_body n ps.rest in
-        got (turned (λ k. (k, refl)) (begun b.low (ps.part ⊕ a.part))) (past a.rest)
-    span_primary (g.Primary.class_form {w = w} h i j k n m) e =
+        got (body_spans w qs u b.low ps.part a.part) (past a.rest)
+    span_primary (g.Primary.class_form {w = w} {c = v} {t = u} h i j k n m) e =
         let b = word_spent (codes "class") w h e in
         let s = span_superclass j (past b.rest) in
         let a = span_body n (past s.rest) in
-        got (turned (λ k. (k.0, (k.1, refl))) (begun_before b.low s.part (still ⊕ a.part))) (past a.rest)
-    span_primary (g.Primary.module_form {w = w} h i j k n) e =
+        got (class_spans w v (word source (next w)) u b.low s.part a.part) (past a.rest)
+    span_primary (g.Primary.module_form {w = w} {t = u} h i j k n) e =
         let b = word_spent (codes "module") w h e in
         let a = span_body k (past (past b.rest)) in
-        got (turned (λ k. (k, refl)) (begun b.low (still ⊕ a.part))) (past a.rest)
+        got (body_spans w no_param u b.low still a.part) (past a.rest)
     span_primary (g.Primary.retry_word h) e = got still (past e)
 
     pub span_postfixes : {d : DoBlockOwner} {o : Toks} {s z : Scope} {x t : Tree} {w r : Toks} {top k l : ℕ} → Postfixes source R d o x w s t r z → TreeSpan x k l → Fits top l w → GotTree top t k r

@@ -7,8 +7,7 @@ use Rattle.ruby_tree.specs.Rules.{Scope, DoBlockOwner, next, place_at, position,
 use Rattle.ruby_tree.specs.Build.{sent, binary, conjunction, disjunction, read_form, rescued}
 use Rattle.ruby_tree.specs.Grammar.{Rel, Rels, derives, UnaryOperand, Power, Minus, Rest, Chain, Product, Sum, Shift, Intersection, Union, Order, Equality, Conjunction, Disjunction, Range, Conditional, Values, Command, Value, Unset, Arg, CommandOrArg, Test, Tests, Expr, Head, Modifiers, Stmt, StmtList, Stmts}
 use Rattle.ruby_tree.specs.Grammar as g
-use Rattle.ruby_meaning.specs.Sequences.{places, trees_places}
-use Rattle.tree_laws.proofs.Spans.{TreeSpan, TreesSpan, still, turned, ◌⊕◌, ◌⊗◌, stay, begun, passed, Fits, past, Got, got, GotTree, GotTrees}
+use Rattle.tree_laws.proofs.Spans.{TreeSpan, TreesSpan, still, turned, ◌⊕◌, ◌⊗◌, stay, begun, passed, Fits, past, got, GotTree, GotTrees}
 use Rattle.tree_laws.proofs.SpanParts.{Spanning, call_spans, word_spent, span_method_name, span_targets, span_several, span_command_items, span_command_block, span_elses, span_postfix}
 
 -- what two operands and an operator make
