@@ -115,8 +115,7 @@ module _ (text : Bytes) where
     inside_rises w ps r t (nested {b = b} {w = v} {q = q} {ts = ts} {ps = qs} h g o k i) =
         let x = K (drop 1 v) ts q (tail_on t (behind (tail_drop 1 v))) k in
         let y : Tail v (drop 1 q) = tail_on (tail_drop 1 v) (tail_on x.0 (tail_drop 1 q)) in
-        let n = inside_rises (drop 1 q) qs r (tail_on t (behind y)) i in
-        (
+        let n = inside_rises (drop 1 q) qs r (tail_on t (behind y)) i in (
           behind (tail_on y n.0),
           (
             place text q,
