@@ -11,5 +11,10 @@ pub mod RowsTrees
 pub mod RisingRow
 pub mod Keeps
 pub mod BodyRuns
+pub mod ByPlaces
+pub mod FoundTrees
+pub mod FoundPrograms
+pub mod ProgramsRun
+pub mod ReadText
 pub mod Inside
 pub mod RisingTexts

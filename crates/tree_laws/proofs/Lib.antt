@@ -10,6 +10,10 @@ pub mod HousedParts
 pub mod HousedStatements
 pub mod LocalsHeld
 pub mod Numbering
+pub mod Forming
+pub mod FormedParts
+pub mod FormedStatements
+pub mod TextsFormed
 pub mod Ascending
 pub mod Spans
 pub mod SpanParts
