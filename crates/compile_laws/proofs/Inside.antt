@@ -22,27 +22,30 @@ is_before x q [] h b = absurd h
 is_before x q (y ∷ xs) (inl e) b = omega (arith, e, b.0)
 is_before x q (y ∷ xs) (inr h) b = is_before x q xs h b.1
 
-pub is_behind : (x q : ℕ) (xs : List ℕ) → Has x xs → Behind q xs → q < x
+is_behind : (x q : ℕ) (xs : List ℕ) → Has x xs → Behind q xs → q < x
 is_behind x q [] h b = absurd h
 is_behind x q (y ∷ xs) (inl e) b = omega (arith, e, b.0)
 is_behind x q (y ∷ xs) (inr h) b = is_behind x q xs h b.1
 
--- each of the first places is one of the others
-pub record Inside (all xs : List ℕ) : Type 0 where
-  pub holds : (x : ℕ) → Has x xs → Has x all
+-- It holds of each of the places.
+pub record Each (Q : ℕ → Type 0) (xs : List ℕ) : Type 0 where
+  pub holds : (x : ℕ) → Has x xs → Q x
 
-pub whole : (all : List ℕ) → Inside all all
-whole all = record { holds = λ x h. h }
+-- each of them is one of all
+abbrev pub Inside : List ℕ → List ℕ → Type 0
+Inside all xs = Each (λ x. Has x all) xs
 
-module _ {all xs : List ℕ} where
-  pub first_inside : (ys : List ℕ) → Inside all (xs ++ ys) → Inside all xs
-  first_inside ys i = record { holds = λ x h. i.holds x (has_first x xs ys h) }
+pub turned : {Q R : ℕ → Type 0} {xs : List ℕ} → ((x : ℕ) → Q x → R x) → Each Q xs → Each R xs
+turned f i = record { holds = λ x h. f x (i.holds x h) }
 
-pub rest_inside : {all ys : List ℕ} (xs : List ℕ) → Inside all (xs ++ ys) → Inside all ys
-rest_inside {ys = ys} xs i = record { holds = λ x h. i.holds x (has_rest x xs ys h) }
+pub of_first : {Q : ℕ → Type 0} {xs : List ℕ} (ys : List ℕ) → Each Q (xs ++ ys) → Each Q xs
+of_first {xs = xs} ys i = record { holds = λ x h. i.holds x (has_first x xs ys h) }
 
-pub behind_inside : {all xs : List ℕ} (p : ℕ) → Inside all (p ∷ xs) → Inside all xs
-behind_inside p i = record { holds = λ x h. i.holds x (inr h) }
+pub of_rest : {Q : ℕ → Type 0} {ys : List ℕ} (xs : List ℕ) → Each Q (xs ++ ys) → Each Q ys
+of_rest {ys = ys} xs i = record { holds = λ x h. i.holds x (has_rest x xs ys h) }
+
+pub of_inner : {Q : ℕ → Type 0} {xs : List ℕ} (p : ℕ) → Each Q (p ∷ xs) → Each Q xs
+of_inner p i = record { holds = λ x h. i.holds x (inr h) }
 
 -- a sequence's own place is one of those of its tree
 pub begins_there : (c : Tree) → Begins c → Has (place_of c) (places c)
@@ -62,3 +65,7 @@ protecting d _ (first s t ts h) n = has_first (place_of d) (places t) (trees_pla
 pub protecting_first : (all : List ℕ) (a c : Tree) → Nested a → Before (place_of c) (places a) → Inside all (places a) → (d : Tree) → Protects d a → sequence_number all (place_of d) < sequence_number all (place_of c)
 protecting_first all a c n b i d g =
     let h = protecting d a g n in numbers_rise all (place_of d) (place_of c) (i.holds (place_of d) h) (is_before (place_of d) (place_of c) (places a) h b)
+
+-- the number of a sequence is less than those of the sequences within it
+pub number_first : (all : List ℕ) (p : ℕ) (xs : List ℕ) → Behind p xs → Inside all (p ∷ xs) → Each (λ x. Has x all × (sequence_number all p < sequence_number all x)) xs
+number_first all p xs b i = record { holds = λ x h. (i.holds x (inr h), numbers_rise all p x (i.holds p (inl refl)) (is_behind x p xs h b)) }

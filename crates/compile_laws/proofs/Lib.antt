@@ -17,4 +17,6 @@ pub mod FoundPrograms
 pub mod ProgramsRun
 pub mod ReadText
 pub mod Inside
-pub mod RisingTexts
+pub mod NestedRise
+pub mod NumberedSequences
+pub mod TextsRise
