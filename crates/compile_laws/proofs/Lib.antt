@@ -16,6 +16,7 @@ pub mod FoundTrees
 pub mod FoundPrograms
 pub mod ProgramsRun
 pub mod ReadText
+pub mod Units
 pub mod Inside
 pub mod NestedRise
 pub mod NumberedSequences

@@ -13,15 +13,15 @@ use Rattle.ruby_meaning.specs.Sequences.{places, count_below, sequence_number}
 use Rattle.code_meaning.specs.Code.{finish}
 use Rattle.compile_table.specs.Order.{are_in_order}
 use Rattle.compile_table.specs.Shapes.{shape}
-use Rattle.compile_table.specs.Sequences.{Compiled, in_file, sequences, by_places, compiled_file, sequences_of, routines, bodies, index_row, unit_of}
+use Rattle.compile_table.specs.Sequences.{Compiled, in_file, sequences, by_places, compiled_file, sequences_of, index_row, unit_of, sequence_at}
 use Rattle.tree_laws.proofs.Apart.{places_apart}
 use Rattle.tree_laws.proofs.LocalsHeld.{housed}
 use Rattle.tree_laws.proofs.TextsFormed.{text_formed}
 use Rattle.tree_laws.proofs.Nests.{nested}
 use Rattle.compile_laws.specs.Rising.{Rises}
 use Rattle.compile_laws.proofs.RowsTrees as rows
-use Rattle.compile_laws.proofs.ByPlaces.{spots, by_all, those_before}
-use Rattle.compile_laws.proofs.FoundTrees.{tree_told}
+use Rattle.compile_laws.proofs.ByPlaces.{by_all}
+use Rattle.compile_laws.proofs.FoundPrograms.{numbered}
 use Rattle.compile_laws.proofs.NestedRise.{rises}
 use Rattle.compile_laws.proofs.NumberedSequences.{IsRising, IsNumbered, tree_is}
 
@@ -34,20 +34,20 @@ module _ (path : Bytes) (source : Source) (t : Tree) (R : Reads source t) where
   abbrev inner : List Compiled
   inner = sequences (in_file path t) t
 
-  numbered : AllByRecursion (IsNumbered (places t)) inner
-  numbered = (tree_is (in_file path t) t (nested source t R) (record { holds = λ x h. (h, omega arith) })).each
+  all_numbered : AllByRecursion IsNumbered inner
+  all_numbered = (tree_is (in_file path t) t (nested source t R) (record { holds = λ x h. (h, omega arith) })).each
 
-  first_by_recursion : AllByRecursion (λ c. c.parent < sequence_number (places t) c.place) inner
-  first_by_recursion = every (IsNumbered (places t)) (λ c. c.parent < sequence_number (places t) c.place) (λ c h. h.behind_parent) inner numbered
+  first_by_recursion : AllByRecursion (λ c. c.parent < c.inner.number) inner
+  first_by_recursion = every IsNumbered (λ c. c.parent < c.inner.number) (λ c h. h.behind_parent) inner all_numbered
 
-  pub parents_first : All (λ c. c.parent < sequence_number (places t) c.place) inner
-  parents_first = All-from_recursion (λ c. c.parent < sequence_number (places t) c.place) inner first_by_recursion
+  pub parents_first : All (λ c. c.parent < c.inner.number) inner
+  parents_first = All-from_recursion (λ c. c.parent < c.inner.number) inner first_by_recursion
 
   file_rising : IsRising (compiled_file path t)
   file_rising = record { rising = (tt, rises (places t) t (nested source t R) (record { holds = λ x h. h })); depth = 0; rows_are = refl }
 
   all_rising : All IsRising (sequences_of path t)
-  all_rising = All-from_recursion IsRising (sequences_of path t) (file_rising, by_all IsRising inner (every (IsNumbered (places t)) IsRising (λ c h. h.is_rising) inner numbered))
+  all_rising = All-from_recursion IsRising (sequences_of path t) (file_rising, by_all IsRising inner (every IsNumbered IsRising (λ c h. h.is_rising) inner all_numbered))
 
   pub rise : All (λ c. Rises c.inner.places c.tree) (sequences_of path t)
   rise k d less = (all_rising k d less).rising
@@ -77,16 +77,8 @@ row_at (c ∷ cs) zero d row e = (omega arith, ap (λ x. unwrap_or x row) e)
 row_at (c ∷ cs) (suc k) d row e = let n = row_at cs k d row e in (omega (arith, n.0), n.1)
 
 module _ (path : Bytes) (source : Source) (t : Tree) (R : Reads source t) where
-  same_places : spots (sequences (in_file path t) t) ≡ places t
-  same_places = (tree_told (routines path t) (bodies path t) t (in_file path t) (text_formed source t R) (housed source t R)).same
-
-  number_at : (k : ℕ) → k < length (by_places (inner path source t R)) → sequence_number (places t) (get_or (by_places (inner path source t R)) k (compiled_file path t)).place ≡ suc k
-  number_at k less =
-      let cs = inner path source t R in
-      let c = get_or (by_places cs) k (compiled_file path t) in
-      ap suc (subst (λ qs. count_below c.place qs ≡ k) same_places (those_before (compiled_file path t) cs k (subst (IsDistinct nat_eq) (sym same_places) (places_apart source t R)) less))
-
   row_is : (id : ℕ) (row : IndexRow) → slice_get (map index_row (sequences_of path t)) id ≡ Some row → IsIndexRow id row
+  unfolding sequence_at
   row_is zero row e =
       let is : index_row (compiled_file path t) ≡ row = ap (λ x. unwrap_or x row) e in
       subst (IsIndexRow 0) is (record { file = ((λ h. refl), (λ h. refl)); top = λ h. refl; below = λ h. absurd (omega (arith, h)) })
@@ -94,8 +86,9 @@ module _ (path : Bytes) (source : Source) (t : Tree) (R : Reads source t) where
       let cs = inner path source t R in
       let n = row_at (by_places cs) k (compiled_file path t) row e in
       let c = get_or (by_places cs) k (compiled_file path t) in
-      let known : IsNumbered (places t) c = All-from_recursion (IsNumbered (places t)) (by_places cs) (by_all (IsNumbered (places t)) cs (numbered path source t R)) k (compiled_file path t) n.0 in
-      let less : c.parent < suc k = subst (λ m. c.parent < m) (number_at k n.0) known.behind_parent in
+      let known : IsNumbered c = All-from_recursion IsNumbered (by_places cs) (by_all IsNumbered cs (all_numbered path source t R)) k (compiled_file path t) n.0 in
+      let is : c.inner.number ≡ suc k = numbered path t (text_formed source t R) (housed source t R) (places_apart source t R) (suc k) (omega (arith, n.0)) in
+      let less : c.parent < suc k = subst (λ m. c.parent < m) is known.behind_parent in
       subst (IsIndexRow (suc k)) n.1 (record { file = ((λ h. absurd (known.within h)), (λ h. absurd (omega (arith, h)))); top = λ h. absurd (omega (arith, h)); below = λ h. less })
 
   pub index_is : AreIndexRows (unit_of path t).rows

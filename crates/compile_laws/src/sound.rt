@@ -4,7 +4,6 @@ ghost use Rattle.ruby_lexer.specs.Bytes.{Bytes as Source};
 ghost use Rattle.ruby_tree.specs.Names.{Bytes};
 ghost use Rattle.ruby_tree.specs.Tree.{Tree};
 ghost use Rattle.ruby_tree.specs.Reading.{Reads};
-ghost use Rattle.ruby_meaning.specs.Sequences.{places, sequence_number};
 ghost use Rattle.iseq_types.specs.Index.{AreIndexRows};
 ghost use Rattle.iseq_types.specs.Sound.{IsOrdered};
 ghost use Rattle.code_meaning.specs.Code.{finish, rows_of};
@@ -43,6 +42,6 @@ pub fn texts_rise()
 /// around it. So the rows of the unit's index are right: the file's own is the first, and each other
 /// one names a parent before it.
 pub fn parents_come_first()
-    ensures first { (path : Bytes) (source : Source) (t : Tree) → Reads source t → All (λ c. c.parent < sequence_number (places t) c.place) (sequences (in_file path t) t) }
+    ensures first { (path : Bytes) (source : Source) (t : Tree) → Reads source t → All (λ c. c.parent < c.inner.number) (sequences (in_file path t) t) }
     ensures index { (path : Bytes) (source : Source) (t : Tree) → Reads source t → AreIndexRows (unit_of path t).rows }
 {}
