@@ -1,7 +1,4 @@
 pub mod Spots
-pub mod FillParts
-pub mod FillStatements
-pub mod SpotsOfTexts
 pub mod Apart
 pub mod Known
 pub mod Gathering

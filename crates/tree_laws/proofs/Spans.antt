@@ -1,5 +1,5 @@
 -- Between which places the sequences of a part begin: what is known of the parts of a tree is known of the tree.
-use Rattle.std.proofs.Common.{◌≡◌, ℕ, suc, ◌≤◌, ◌<◌, List, [], ◌∷◌, ◌++◌, subst, arith, Option, Some, None}
+use Rattle.std.proofs.Common.{◌≡◌, ◌⊎◌, inl, inr, refl, nat_eq, ℕ, zero, suc, ◌+◌, ◌≤◌, ◌<◌, List, [], ◌∷◌, ◌++◌, subst, arith, Option, Some, None}
 use Rattle.std.specs.Prelude.{⊤}
 use Rattle.std.specs.List.{AllByRecursion}
 use Rattle.ruby_lexer.specs.Pieces.{Kind, Parts, Tok, tok, Toks}
@@ -8,6 +8,7 @@ use Rattle.ruby_tree.specs.Tree.{Tree, Trees, Other, Pairs, Pieces, Whens, Rescu
 use Rattle.ruby_tree.specs.Rules.{next, front, place_at}
 use Rattle.ruby_meaning.specs.Sequences.{places, trees_places, other_places, pairs_places, pieces_places, whens_places, clauses_places, params_places}
 use Rattle.tree_laws.specs.Nesting.{Behind, Before, Begins, Nested, TreesNested, OtherNested, BlockNested, PairsNested, PiecesNested, WhensNested, ClausesNested, ParamsNested}
+use Rattle.tree_laws.proofs.Spots.{one_at, at_most_one, elsewhere, count, on}
 use Rattle.tree_laws.proofs.Ascending.{Ascending, KindAscending, PartsAscending, lower}
 
 -- each of the places is one from l on, and before m
@@ -30,10 +31,40 @@ all_before : (l j q : ℕ) (xs : List ℕ) → j ≤ q → Between l j xs → Be
 all_before l j q [] less h = tt
 all_before l j q (x ∷ xs) less h = (omega (arith, less, h.0.1), all_before l j q xs less h.1)
 
--- What is known of a part whose sequences begin at these places, all of them from l on and before m.
+either : (x n : ℕ) → (x < n) ⊎ (n ≤ x)
+either x zero = inr (omega arith)
+either zero (suc n) = inl (omega arith)
+either (suc x) (suc n) = up (either x n)
+  where
+    up : (x < n) ⊎ (n ≤ x) → (suc x < suc n) ⊎ (suc n ≤ suc x)
+    up (inl h) = inl (omega (arith, h))
+    up (inr h) = inr (omega (arith, h))
+
+-- a place before all of them, or behind them
+pub none_there : (p l m : ℕ) (xs : List ℕ) → Between l m xs → (p < l) ⊎ (m ≤ p) → count p xs ≡ 0
+none_there p l m [] h out = refl
+none_there p l m (x ∷ xs) h (inl less) = omega (arith, elsewhere p x (λ e. omega (arith, e, less, h.0.0)), none_there p l m xs h.1 (inl less))
+none_there p l m (x ∷ xs) h (inr less) = omega (arith, elsewhere p x (λ e. omega (arith, e, less, h.0.1)), none_there p l m xs h.1 (inr less))
+
+once_in_two : (l j m : ℕ) (xs ys : List ℕ) → Between l j xs → Between j m ys → (p : ℕ) → count p xs ≤ 1 → count p ys ≤ 1 → count p xs + count p ys ≤ 1
+once_in_two l j m xs ys h k p a b = by (either p j)
+  where
+    by : (p < j) ⊎ (j ≤ p) → count p xs + count p ys ≤ 1
+    by (inl less) = omega (arith, a, none_there p j m ys k (inl less))
+    by (inr less) = omega (arith, b, none_there p l j xs h (inr less))
+
+once_more : (q m : ℕ) (xs : List ℕ) → Between (suc q) m xs → (p : ℕ) → count p xs ≤ 1 → one_at p q + count p xs ≤ 1
+once_more q m xs h p a = by (either q p)
+  where
+    by : (q < p) ⊎ (p ≤ q) → one_at p q + count p xs ≤ 1
+    by (inl less) = omega (arith, a, elsewhere p q (λ e. omega (arith, e, less)))
+    by (inr less) = omega (arith, at_most_one (nat_eq p q), none_there p (suc q) m xs h (inl (omega (arith, less))))
+
+-- What is known of a part whose sequences begin at these places: each place once, all of them from l on and before m.
 pub record Span (K : Type 0) (xs : List ℕ) (l m : ℕ) : Type 0 where
   pub known : K
   pub between : Between l m xs
+  pub once : (p : ℕ) → count p xs ≤ 1
   pub on : l ≤ m
 
 abbrev pub TreeSpan : Tree → ℕ → ℕ → Type 0
@@ -49,18 +80,18 @@ abbrev pub BlockSpan : Other → ℕ → ℕ → Type 0
 BlockSpan v l m = Span (BlockNested v) (other_places v) l m
 
 pub still : {l : ℕ} → Span ⊤ [] l l
-still = record { known = tt; between = tt; on = omega arith }
+still = record { known = tt; between = tt; once = λ p. omega arith; on = omega arith }
 
 pub turned : {K L : Type 0} {xs : List ℕ} {l m : ℕ} → (K → L) → Span K xs l m → Span L xs l m
-turned f a = record { known = f a.known; between = a.between; on = a.on }
+turned f a = record { known = f a.known; between = a.between; once = a.once; on = a.on }
 
 -- a part that the tree does not have
 pub wait : {K : Type 0} {xs : List ℕ} {l m : ℕ} → Span K xs l m → Span ⊤ [] l m
-wait a = record { known = tt; between = tt; on = a.on }
+wait a = record { known = tt; between = tt; once = λ p. omega arith; on = a.on }
 
 -- from an earlier place on
 pub earlier : {K : Type 0} {xs : List ℕ} {k l m : ℕ} → k ≤ l → Span K xs l m → Span K xs k m
-earlier {xs = xs} {k} {l} {m} less a = record { known = a.known; between = wide k l m m xs less (omega arith) a.between; on = omega (arith, less, a.on) }
+earlier {xs = xs} {k} {l} {m} less a = record { known = a.known; between = wide k l m m xs less (omega arith) a.between; once = a.once; on = omega (arith, less, a.on) }
 
 module _ {K L : Type 0} {xs ys : List ℕ} {l j m : ℕ} where
   infixr 10 ◌⊕◌
@@ -71,6 +102,7 @@ module _ {K L : Type 0} {xs ys : List ℕ} {l j m : ℕ} where
       record {
         known = (a.known, b.known);
         between = together l m xs ys (wide l l j m xs (omega arith) b.on a.between) (wide l j m m ys a.on (omega arith) b.between);
+        once = λ p. omega (arith, on p xs ys, once_in_two l j m xs ys a.between b.between p (a.once p) (b.once p));
         on = omega (arith, a.on, b.on);
       }
 
@@ -80,11 +112,12 @@ module _ {K L : Type 0} {xs ys : List ℕ} {l j m : ℕ} where
       record {
         known = (b.known, a.known);
         between = together l m ys xs (wide l j m m ys a.on (omega arith) b.between) (wide l l j m xs (omega arith) b.on a.between);
+        once = λ p. omega (arith, on p ys xs, once_in_two l j m xs ys a.between b.between p (a.once p) (b.once p));
         on = omega (arith, a.on, b.on);
       }
 
   pub stay : Span K xs l j → Span L ys j m → Span K xs l m
-  stay a b = record { known = a.known; between = wide l l j m xs (omega arith) b.on a.between; on = omega (arith, a.on, b.on) }
+  stay a b = record { known = a.known; between = wide l l j m xs (omega arith) b.on a.between; once = a.once; on = omega (arith, a.on, b.on) }
 
 -- a sequence that begins there
 pub begun : {K : Type 0} {xs : List ℕ} {l m q : ℕ} → l ≤ q → Span K xs (suc q) m → Span (K × Behind q xs) (q ∷ xs) l m
@@ -92,6 +125,7 @@ begun {xs = xs} {l} {m} {q} less a =
     record {
       known = (a.known, all_behind q m xs a.between);
       between = ((less, omega (arith, a.on)), wide l (suc q) m m xs (omega (arith, less)) (omega arith) a.between);
+      once = λ p. once_more q m xs a.between p (a.once p);
       on = omega (arith, less, a.on);
     }
 
@@ -101,6 +135,7 @@ begun_before {xs = xs} {ys = ys} {l} {j} {m} {q} less a b =
     record {
       known = (a.known, (b.known, all_behind q m ys (wide (suc q) j m m ys a.on (omega arith) b.between)));
       between = together l m xs (q ∷ ys) (wide l (suc q) j m xs (omega (arith, less)) b.on a.between) ((less, omega (arith, a.on, b.on)), wide l j m m ys (omega (arith, less, a.on)) (omega arith) b.between);
+      once = λ p. let both = a ⊕ b in omega (arith, on p xs (q ∷ ys), on p xs ys, once_more q m (xs ++ ys) both.between p (both.once p));
       on = omega (arith, less, a.on, b.on);
     }
 
