@@ -1,7 +1,4 @@
 pub mod Spots
-pub mod FillParts
-pub mod FillStatements
-pub mod SpotsOfTexts
 pub mod Apart
 pub mod Known
 pub mod Gathering
@@ -14,3 +11,8 @@ pub mod Forming
 pub mod FormedParts
 pub mod FormedStatements
 pub mod TextsFormed
+pub mod Ascending
+pub mod Spans
+pub mod SpanParts
+pub mod SpanStatements
+pub mod Nests

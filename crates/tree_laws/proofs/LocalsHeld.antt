@@ -1,5 +1,5 @@
 -- Each local that is read or set in a text's tree is held where it stands.
-use Rattle.std.proofs.Common.{[], length, arith}
+use Rattle.std.proofs.Common.{[], arith}
 use Rattle.ruby_lexer.specs.Bytes.{Bytes}
 use Rattle.ruby_lexer.specs.Tokens.{before_end}
 use Rattle.ruby_tree.specs.Tree.{Tree}
@@ -8,16 +8,14 @@ use Rattle.ruby_meaning.specs.Locals.{locals_of}
 use Rattle.ruby_meaning.specs.Sequences.{places}
 use Rattle.ruby_meaning.specs.Loads.{file_body}
 use Rattle.ruby_meaning.specs.Levels.{file_sight, IsHoused}
-use Rattle.tree_laws.proofs.Spots.{spots}
-use Rattle.tree_laws.proofs.SpotsOfTexts.{tokens_sole}
-use Rattle.tree_laws.proofs.Apart.{counted, none_of, beyond}
+use Rattle.tree_laws.proofs.Apart.{none_beyond}
 use Rattle.tree_laws.proofs.Known.{Absent}
 use Rattle.tree_laws.proofs.Housing.{top, HousedTree, all_known, is_sound, locals_held}
 use Rattle.tree_laws.proofs.HousedStatements.{houses}
 
 module _ (source : Bytes) (t : Tree) (R : Reads source t) where
   far : Absent top (places t)
-  far = record { holds = omega (arith, counted source t R top, none_of top (spots top R.tokens) (length (before_end source)) (beyond source t R top (omega arith)) (tokens_sole top source R.tokens R.are_tokens)) }
+  far = record { holds = none_beyond source t R top (omega arith) }
 
   far_from_file : Absent top (places (file_body t))
   far_from_file = record { holds = omega (arith, far.holds) }
