@@ -177,7 +177,7 @@ module _ (asked : Type 0) (files : Files) (are : ArePlaced files) (held : asked 
     keep_form c y (super ts ks v t) s frame e p j =
         keep_trees c y ts frame [] _ p.0 (λ g. (j g).0) (λ vs. keep_block_value c y v frame s.line frame.block _ p.1.0 (λ g. (j g).1.0) (λ given. keep_reading (in_frame asked c y frame) c (spread ks vs) _ (λ us. keep_super_to c y frame.method frame s.line t given us p.1.1 (λ g. (j g).1.1))))
     keep_form c y (bare_super t) s frame e p j =
-        keep_reading (in_frame asked c y frame) c (λ w. map (λ x. read_local frame x w) (names_of_params (params_of frame.code.body))) _ (λ vs. keep_super_to c y frame.method frame s.line t frame.block vs p j)
+        keep_reading (in_frame asked c y frame) c (λ w. map (λ x. read_local frame x w) (names_of_params (params_of frame.code.body))) _ (λ vs. keep_super_to c y frame.method frame s.line t frame.block vs p (λ g. (j g).1))
     keep_form c y bare_raise s frame e p j = sends c y frame s.line frame.self_value (codes "raise") (frame.handled ∷ [])
     keep_form c y (statements ts) s frame e p j = keep_all c y ts frame nil p j
     keep_form c y (both a d) s frame e p j = keep_then (in_frame asked c y frame) c _ _ (keep_run c y a frame p.0 (λ g. (j g).0)) (λ v. keep_choose (in_frame asked c y frame) c (is_true v) _ _ (keep_run c y d frame p.1 (λ g. (j g).1)) (keep_done (in_frame asked c y frame) c v))
