@@ -38,7 +38,7 @@ closures_push so [] d h g = (g, tt)
 closures_push so (x ∷ all) d h g = (h.0, closures_push so all d h.1 g)
 
 module _ (asked : Type 0) where
-  moves_closure : (d : Closure) (w : World) → GoodClosure asked w.objects w.environments d → Good asked w → Moves asked w (with_closure d w)
+  pub moves_closure : (d : Closure) (w : World) → GoodClosure asked w.objects w.environments d → Good asked w → Moves asked w (with_closure d w)
   moves_closure d w h s = record {
     leads = record { store = store_same w.objects; rooms = λ g. all_stay w.environments };
     good = good_on asked w (with_closure d w) (keeps_same asked w.objects) (closures_push (GoodClosure asked w.objects w.environments) w.closures d s.closures h) s;
