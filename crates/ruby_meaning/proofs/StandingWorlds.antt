@@ -7,14 +7,14 @@ use Rattle.ruby_meaning.specs.NativeName.{Native}
 use Rattle.ruby_meaning.specs.Value.{Value, Code, MethodRow, written, Class, class_or_module, Object}
 use Rattle.ruby_meaning.specs.Store.{is_one_of, new_object, is_class_or_module}
 use Rattle.ruby_meaning.specs.Native.{gives}
-use Rattle.ruby_meaning.specs.NativeAnswer.{NativeAnswer, itself, native_answer}
-use Rattle.ruby_meaning.specs.World.{Environment, Closure, World, Frame, Outcome, world_of}
+use Rattle.ruby_meaning.specs.NativeAnswer.{itself, native_answer}
+use Rattle.ruby_meaning.specs.World.{Closure, World, Frame, Outcome, world_of}
 use Rattle.ruby_meaning.specs.Steps.{with_objects, with_object}
 use Rattle.ruby_meaning.specs.Calls.{with_environment}
 use Rattle.ruby_meaning.specs.Loads.{with_feature}
 use Rattle.ruby_meaning.specs.Invoke.{thrown}
 use Rattle.ruby_meaning.specs.Definitions.{set_local, with_constant, with_closure, with_row, with_class_row}
-use Rattle.ruby_meaning.specs.ClassGraph.{above_in, StoreLeads}
+use Rattle.ruby_meaning.specs.ClassGraph.{above_in}
 use Rattle.ruby_meaning.specs.Levels.{Sight}
 use Rattle.ruby_meaning.specs.Stored.{IsClass, RowsAre, CodeStored, StoredIn, IsStored, StoredOut}
 use Rattle.ruby_meaning.specs.Housed.{CodeHoused, MadeIn, WorldHoused, HousedOut, StandsFrom, InPlace}
