@@ -14,3 +14,4 @@ pub mod Forming
 pub mod FormedParts
 pub mod FormedStatements
 pub mod TextsFormed
+pub mod PlainRuns
