@@ -12,7 +12,7 @@ use Rattle.ruby_meaning.specs.Sequences.{places}
 use Rattle.ruby_meaning.specs.World.{World, Frame, Outcome}
 use Rattle.ruby_meaning.specs.Loads.{file_body}
 use Rattle.ruby_meaning.specs.Files.{Files}
-use Rattle.ruby_meaning.specs.Levels.{Sight, Scopes, body_sight, names_seen, block_sight}
+use Rattle.ruby_meaning.specs.Levels.{Sight, Scopes, names_seen}
 use Rattle.ruby_meaning.specs.InSight.{HasScopes}
 use Rattle.ruby_meaning.specs.Evaluation.{evaluate}
 use Rattle.code_meaning.specs.Code.{Routine}

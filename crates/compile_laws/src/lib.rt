@@ -3,7 +3,7 @@
 
 pub mod alike;
 pub mod bodies;
-pub mod found;
 pub mod calls;
+pub mod found;
 pub mod frames;
 pub mod sound;

@@ -10,6 +10,6 @@ returns a = record {
   begins = file_entered;
   runs = λ files path load source t outside inside calling w R. file_runs path load source t outside inside calling w R files;
   machine = λ files path load source t outside inside calling w o R ts.
-  ends_so files path t (routines path t 0) (entry_frame path load t outside inside calling w) 0 (entry_world t w) o
-  (evaluate files (file_body t) (entry_frame path load t outside inside calling w) (entry_world t w)) (file_runs path load source t outside inside calling w R files) ts;
+      ends_so files path t (routines path t 0) (entry_frame path load t outside inside calling w) 0 (entry_world t w) o
+      (evaluate files (file_body t) (entry_frame path load t outside inside calling w) (entry_world t w)) (file_runs path load source t outside inside calling w R files) ts;
 }
