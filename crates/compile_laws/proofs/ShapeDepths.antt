@@ -6,7 +6,8 @@ use Rattle.std.proofs.lemmas.Option.{slice_get-get_or}
 use Rattle.std.proofs.lemmas.Bool.{lt-ltb, le-ltb}
 use Rattle.iseq_types.specs.declared.instructions.Instr.{Instr}
 use Rattle.iseq_types.specs.declared.instructions.Instr.TheVariants.{Pop, SetN, Jump, BranchIf, BranchUnless, BranchNil}
-use Rattle.iseq_types.specs.declared.sequences.CatchRow.{CatchRow}
+use Rattle.iseq_types.specs.declared.sequences.CatchKind.{CatchKind}
+use Rattle.iseq_types.specs.declared.sequences.CatchKind.TheVariants as catches
 use Rattle.iseq_types.specs.declared.sequences.Line.{Line}
 use Rattle.iseq_types.specs.Instructions.{needs_of, takes_of, leaves_of, depth_after, target_of, goes_on}
 use Rattle.iseq_types.specs.Depths.{DepthAt}
@@ -41,7 +42,7 @@ depths_of h c (ahead l j n s) = Some c ∷ depths_of h (past (j 0) h c s) s
 depths_of h c (behind l j n s) = Some c ∷ depths_of h (past (j 0) h c s) s
 depths_of h c (deep l j s) = Some c ∷ depths_of h (past (j h) h c s) s
 depths_of h c (part d a s) = depths_of (h + d) (h + d) a ++ depths_of h (h + d + 1) s
-depths_of h c (held k far q a s) = depths_of h h a ++ depths_of h (h + 1) s
+depths_of h c (held k far q a s) = depths_of h c a ++ depths_of h (h + 1) s
 
 pub depths_length : (s : Shape) (h c : ℕ) → length (depths_of h c s) ≡ size s
 depths_length done h c = refl
@@ -50,7 +51,7 @@ depths_length (ahead l j n s) h c = let e = depths_length s h (past (j 0) h c s)
 depths_length (behind l j n s) h c = let e = depths_length s h (past (j 0) h c s) in omega arith
 depths_length (deep l j s) h c = let e = depths_length s h (past (j h) h c s) in omega arith
 depths_length (part d a s) h c = let e = depths_length a (h + d) (h + d) in let f = depths_length s h (h + d + 1) in omega (arith, length-append (depths_of (h + d) (h + d) a) (depths_of h (h + d + 1) s))
-depths_length (held k far q a s) h c = let e = depths_length a h h in let f = depths_length s h (h + 1) in omega (arith, length-append (depths_of h h a) (depths_of h (h + 1) s))
+depths_length (held k far q a s) h c = let e = depths_length a h c in let f = depths_length s h (h + 1) in omega (arith, length-append (depths_of h c a) (depths_of h (h + 1) s))
 
 -- the depth so many places behind the first, of which all behind the last are the depth of one value
 abbrev pub look : ℕ → ℕ → Shape → ℕ → ℕ
@@ -61,7 +62,7 @@ look h c (ahead l j m s) (suc n) = look h (past (j 0) h c s) s n
 look h c (behind l j m s) (suc n) = look h (past (j 0) h c s) s n
 look h c (deep l j s) (suc n) = look h (past (j h) h c s) s n
 look h c (part d a s) (suc n) = cond (nat_lt (suc n) (size a)) (look (h + d) (h + d) a (suc n)) (look h (h + d + 1) s (suc n - size a))
-look h c (held k far q a s) (suc n) = cond (nat_lt (suc n) (size a)) (look h h a (suc n)) (look h (h + 1) s (suc n - size a))
+look h c (held k far q a s) (suc n) = cond (nat_lt (suc n) (size a)) (look h c a (suc n)) (look h (h + 1) s (suc n - size a))
 
 -- an instruction that leads to a place
 pub record Leaps (j : ℕ → Instr) : Type 0 where
@@ -83,11 +84,12 @@ leaps_unless = record { target = λ t. refl; needs = λ t. refl; takes = λ t. r
 pub leaps_nil : Leaps BranchNil
 leaps_nil = record { target = λ t. refl; needs = λ t. refl; takes = λ t. refl; leaves = λ t. refl; on = λ t. refl }
 
--- What stands around code: how many places behind it a jump may reach (none or one), how far back a place stands that has the depth
--- over which the code stands, and how far behind the code one that has a value more.
+-- What stands around code: how many places behind it a jump may reach (none or one), how far back the place stands that a jump back leads
+-- to and its depth, and how far behind the code a place stands that has one value.
 pub record Edges : Type 0 where
   pub room : ℕ
   pub back : Option ℕ
+  pub entered : ℕ
   pub outer : Option ℕ
 
 abbrev pub farther : ℕ → Option ℕ → Option ℕ
@@ -95,20 +97,20 @@ farther k None = None
 farther k (Some m) = Some (m + k)
 
 abbrev pub step : ℕ → Edges → Edges
-step k e = record { room = e.room; back = farther k e.back; outer = e.outer }
+step k e = record { room = e.room; back = farther k e.back; entered = e.entered; outer = e.outer }
 
 abbrev pub within_part : Edges
-within_part = record { room = 1; back = None; outer = None }
+within_part = record { room = 1; back = None; entered = 0; outer = None }
 
 abbrev pub outer_of : ℕ → ℕ → Option ℕ
 outer_of zero n = None
 outer_of (suc x) n = Some n
 
 abbrev pub within_held : Edges → Shape → Edges
-within_held e s = record { room = 1; back = None; outer = outer_of e.room (size s) }
+within_held e s = record { room = 1; back = None; entered = 0; outer = outer_of e.room (size s) }
 
-abbrev pub behind_held : Edges → Shape → Edges
-behind_held e a = record { room = e.room; back = Some (size a); outer = e.outer }
+abbrev pub behind_held : Edges → ℕ → Shape → Edges
+behind_held e c a = record { room = e.room; back = Some (size a); entered = c; outer = e.outer }
 
 -- where what a row catches goes on there is one value
 abbrev pub GoesOn : Edges → ℕ → ℕ → Shape → Type 0
@@ -120,14 +122,14 @@ abbrev pub Fits : Edges → ℕ → ℕ → Shape → Type 0
 Fits e h c done = c ≡ h + 1
 Fits e h c (op l i s) = (needs_of i ≤ c) × (h + takes_of i ≤ c) × (target_of i ≡ None) × Fits (step 1 e) h (past i h c s) s
 Fits e h c (ahead l j n s) = Leaps j × (h + takes_of (j 0) ≤ c) × (n < size s + e.room) × (look h (past (j 0) h c s) s n ≡ depth_after (j 0) c) × Fits (step 1 e) h (past (j 0) h c s) s
-Fits e h c (behind l j n s) = Leaps j × (h + takes_of (j 0) ≤ c) × (e.back ≡ Some n) × (h ≡ depth_after (j 0) c) × Fits (step 1 e) h (past (j 0) h c s) s
+Fits e h c (behind l j n s) = Leaps j × (h + takes_of (j 0) ≤ c) × (e.back ≡ Some n) × (e.entered ≡ depth_after (j 0) c) × Fits (step 1 e) h (past (j 0) h c s) s
 Fits e h c (deep l j s) = (needs_of (j h) ≤ c) × (h + takes_of (j h) ≤ c) × (target_of (j h) ≡ None) × Fits (step 1 e) h (past (j h) h c s) s
 Fits e h c (part d a s) = (c ≡ h + d) × (0 < size a) × (0 < size s + e.room) × Fits within_part (h + d) (h + d) a × Fits (step (size a) e) h (h + d + 1) s
-Fits e h c (held k far q a s) = (c ≡ h) × (0 < size a) × (0 < size s + e.room) × GoesOn e h far s × Fits (within_held e s) h h a × Fits (behind_held e a) h (h + 1) s
+Fits e h c (held k far q a s) = (k ≡ catches.Rescue → c ≡ h) × (0 < size a) × (0 < size s + e.room) × GoesOn e h far s × Fits (within_held e s) h c a × Fits (behind_held e c a) h (h + 1) s
 
 -- the same whatever stands around it
-abbrev pub Fit : ℕ → ℕ → ℕ → Shape → Type 0
-Fit x h c s = (back outer : Option ℕ) → Fits (record { room = x; back = back; outer = outer }) h c s
+pub record Fit (x h c : ℕ) (s : Shape) : Type 0 where
+  pub fits : (back : Option ℕ) (entered : ℕ) (outer : Option ℕ) → Fits (record { room = x; back = back; entered = entered; outer = outer }) h c s
 
 -- ---- how far
 
@@ -142,10 +144,10 @@ look_part h c d a s zero n less e = absurd (omega (arith, less, e))
 look_part h c d a s (suc m) n less e =
     ap (λ x. cond x (look (h + d) (h + d) a (suc m)) (look h (h + d + 1) s (suc m - size a))) (le-ltb (suc m) (size a) (omega (arith, e))) ∙ ap (look h (h + d + 1) s) (omega (arith, e))
 
-pub look_held : (h c : ℕ) (k : _) (far q : ℕ) (a s : Shape) (m n : ℕ) → 0 < size a → m ≡ size a + n → look h c (held k far q a s) m ≡ look h (h + 1) s n
+pub look_held : (h c : ℕ) (k : CatchKind) (far q : ℕ) (a s : Shape) (m n : ℕ) → 0 < size a → m ≡ size a + n → look h c (held k far q a s) m ≡ look h (h + 1) s n
 look_held h c k far q a s zero n less e = absurd (omega (arith, less, e))
 look_held h c k far q a s (suc m) n less e =
-    ap (λ x. cond x (look h h a (suc m)) (look h (h + 1) s (suc m - size a))) (le-ltb (suc m) (size a) (omega (arith, e))) ∙ ap (look h (h + 1) s) (omega (arith, e))
+    ap (λ x. cond x (look h c a (suc m)) (look h (h + 1) s (suc m - size a))) (le-ltb (suc m) (size a) (omega (arith, e))) ∙ ap (look h (h + 1) s) (omega (arith, e))
 
 pub look_end : (s : Shape) (e : Edges) (h c n : ℕ) → Fits e h c s → n ≡ size s → look h c s n ≡ h + 1
 look_end done e h c n f g = ap (look h c done) g ∙ f
@@ -154,7 +156,7 @@ look_end (ahead l j m s) e h c n f g = ap (look h c (ahead l j m s)) g ∙ look_
 look_end (behind l j m s) e h c n f g = ap (look h c (behind l j m s)) g ∙ look_end s (step 1 e) h (past (j 0) h c s) (size s) f.4 refl
 look_end (deep l j s) e h c n f g = ap (look h c (deep l j s)) g ∙ look_end s (step 1 e) h (past (j h) h c s) (size s) f.3 refl
 look_end (part d a s) e h c n f g = look_part h c d a s n (size s) f.1 g ∙ look_end s (step (size a) e) h (h + d + 1) (size s) f.4 refl
-look_end (held k far q a s) e h c n f g = look_held h c k far q a s n (size s) f.1 g ∙ look_end s (behind_held e a) h (h + 1) (size s) f.5 refl
+look_end (held k far q a s) e h c n f g = look_held h c k far q a s n (size s) f.1 g ∙ look_end s (behind_held e c a) h (h + 1) (size s) f.5 refl
 
 -- ---- the depths stand in a list
 
@@ -167,7 +169,7 @@ module _ (found : List (Option ℕ)) where
   Marked h c p (behind l j n s) = DepthAt found p c × Marked h (past (j 0) h c s) (p + 1) s
   Marked h c p (deep l j s) = DepthAt found p c × Marked h (past (j h) h c s) (p + 1) s
   Marked h c p (part d a s) = Marked (h + d) (h + d) p a × Marked h (h + d + 1) (finish p a) s
-  Marked h c p (held k far q a s) = Marked h h p a × Marked h (h + 1) (finish p a) s
+  Marked h c p (held k far q a s) = Marked h c p a × Marked h (h + 1) (finish p a) s
 
   mark_here : (pre post : List (Option ℕ)) (c p : ℕ) → found ≡ pre ++ (Some c ∷ post) → length pre ≡ p → DepthAt found p c
   mark_here pre post c p e n =
@@ -203,10 +205,10 @@ module _ (found : List (Option ℕ)) where
         (omega (arith, n, length-append pre (depths_of (h + d) (h + d) a), depths_length a (h + d) (h + d), finish_size a p)),
   )
   marking (held k far q a s) h c p pre post e n = (
-    marking a h h p pre (depths_of h (h + 1) s ++ post) (e ∙ ap (λ y. pre ++ y) (append_assoc (depths_of h h a) _ post)) n,
-    marking s h (h + 1) (finish p a) (pre ++ depths_of h h a) post
-        (e ∙ ap (λ y. pre ++ y) (append_assoc (depths_of h h a) _ post) ∙ sym (append_assoc pre (depths_of h h a) _))
-        (omega (arith, n, length-append pre (depths_of h h a), depths_length a h h, finish_size a p)),
+    marking a h c p pre (depths_of h (h + 1) s ++ post) (e ∙ ap (λ y. pre ++ y) (append_assoc (depths_of h c a) _ post)) n,
+    marking s h (h + 1) (finish p a) (pre ++ depths_of h c a) post
+        (e ∙ ap (λ y. pre ++ y) (append_assoc (depths_of h c a) _ post) ∙ sym (append_assoc pre (depths_of h c a) _))
+        (omega (arith, n, length-append pre (depths_of h c a), depths_length a h c, finish_size a p)),
   )
 
 no_more_depths : (xs : List (Option ℕ)) → xs ≡ xs ++ []

@@ -4,6 +4,7 @@ use Rattle.std.specs.Prelude.{⊤, IsTrue, slice_get, nat_lt}
 use Rattle.std.proofs.lemmas.Bool.{lt-ltb, cases_lt}
 use Rattle.iseq_types.specs.declared.instructions.Instr.{Instr}
 use Rattle.iseq_types.specs.declared.sequences.CatchKind.{CatchKind}
+use Rattle.iseq_types.specs.declared.sequences.CatchKind.TheVariants as catches
 use Rattle.iseq_types.specs.declared.sequences.CatchRow.{CatchRow}
 use Rattle.iseq_types.specs.declared.sequences.Line.{Line}
 use Rattle.iseq_types.specs.Instructions.{needs_of, takes_of, leaves_of, depth_after, target_of, goes_on}
@@ -141,7 +142,7 @@ module _ (found : List (Option ℕ)) (lines : List Line) (table : List CatchRow)
   at_first (behind l j n s) e h c p less f m = m.0
   at_first (deep l j s) e h c p less f m = m.0
   at_first (part d a s) e h c p less f m = subst (DepthAt found p) (sym f.0) (at_first a within_part (h + d) (h + d) p f.1 f.3 m.0)
-  at_first (held k far q a s) e h c p less f m = subst (DepthAt found p) (sym f.0) (at_first a (within_held e s) h h p f.1 f.4 m.0)
+  at_first (held k far q a s) e h c p less f m = at_first a (within_held e s) h c p f.1 f.4 m.0
 
   at_start : (s : Shape) (e : Edges) (h c p : ℕ) → Fits e h c s → Marked found h c p s → Behind h (finish p s) → p < end → DepthAt found p c
   at_start done e h c p f m b less = subst (DepthAt found p) (sym f) (b less)
@@ -174,12 +175,12 @@ module _ (found : List (Option ℕ)) (lines : List Line) (table : List CatchRow)
       (look_right s (step (size a) e) h (h + d + 1) (finish p a) (suc n - size a) f.4 m.1 b (omega (arith, large, g, less)) (omega (arith, large, le)))))
   look_right (held k far r a s) e h c p (suc n) f m b less le =
       split_at (suc n) (size a)
-      (λ small. subst (DepthAt found (p + suc n)) (sym (ap (λ x. cond x (look h h a (suc n)) (look h (h + 1) s (suc n - size a))) (lt-ltb (suc n) (size a) small)))
-      (look_right a (within_held e s) h h p (suc n) f.4 m.0 (at_start s (behind_held e a) h (h + 1) (finish p a) f.5 m.1 b) less (omega arith)))
+      (λ small. subst (DepthAt found (p + suc n)) (sym (ap (λ x. cond x (look h c a (suc n)) (look h (h + 1) s (suc n - size a))) (lt-ltb (suc n) (size a) small)))
+      (look_right a (within_held e s) h c p (suc n) f.4 m.0 (at_start s (behind_held e c a) h (h + 1) (finish p a) f.5 m.1 b) less (omega arith)))
       (λ large. let g = finish_size a p in
       subst (DepthAt found (p + suc n)) (sym (look_held h c k far r a s (suc n) (suc n - size a) f.1 (omega (arith, large))))
       (subst (λ q. DepthAt found q (look h (h + 1) s (suc n - size a))) (omega (arith, large, g))
-      (look_right s (behind_held e a) h (h + 1) (finish p a) (suc n - size a) f.5 m.1 b (omega (arith, large, g, less)) (omega (arith, large, le)))))
+      (look_right s (behind_held e c a) h (h + 1) (finish p a) (suc n - size a) f.5 m.1 b (omega (arith, large, g, less)) (omega (arith, large, le)))))
 
   outers_held : (h q m : ℕ) (e : Edges) (s : Shape) (room : ℕ) → e.room ≡ room → finish q s + room ≤ end → Behind h (finish q s) → outer_of room (size s) ≡ Some m → (q + m < end) × DepthAt found (q + m) (h + 1)
   outers_held h q m e s zero same inside b g = none_is m g
@@ -187,12 +188,12 @@ module _ (found : List (Option ℕ)) (lines : List Line) (table : List CatchRow)
       let t : size s ≡ m = some_is (size s) m g in let z = finish_size s q in
       (omega (arith, t, z, inside), subst (λ y. DepthAt found y (h + 1)) (omega (arith, t, z)) (b (omega (arith, inside))))
 
-  row_has : (h p far : ℕ) (k : CatchKind) (r : ℕ) (a s : Shape) (e : Edges) → 0 < size a → Fits (within_held e s) h h a → Marked found h h p a
+  row_has : (h c p far : ℕ) (k : CatchKind) (r : ℕ) (a s : Shape) (e : Edges) → (k ≡ catches.Rescue → c ≡ h) → 0 < size a → Fits (within_held e s) h c a → Marked found h c p a
       → DepthAt found (finish p a + far) (h + 1) → HasRow found (row_over k h p (finish p a) far r)
-  row_has h p far k r a s e less f m g = record { cont = g; from = λ x. at_first a (within_held e s) h h p less f m }
+  row_has h c p far k r a s e same less f m g = record { cont = g; from = λ x. subst (DepthAt found p) (same x) (at_first a (within_held e s) h c p less f m) }
 
   pub right : (s : Shape) (e : Edges) (h c p : ℕ) (out : List CatchRow) → e.room ≤ 1 → Fits e h c s → Marked found h c p s → Placed lines table out h p s → finish p s + e.room ≤ end → Behind h (finish p s)
-      → Backs e.back p h → Outers e.outer (finish p s) h → Right h p (finish p s) (rows_of h p s)
+      → Backs e.back p e.entered → Outers e.outer (finish p s) h → Right h p (finish p s) (rows_of h p s)
   right done e h c p out one f m g room b k o = record { led = span_none Led p; spared = span_none (Spares h) p; caught = tt }
   right (op l i s) e h c p out one f m g room b k o =
       let z = finish_size s (p + 1) in
@@ -202,7 +203,7 @@ module _ (found : List (Option ℕ)) (lines : List Line) (table : List CatchRow)
         next = λ on less. subst (DepthAt found (p + 1)) (past_on i h c s on) (at_start s (step 1 e) h (past i h c s) (p + 1) f.3 m.1 b less);
         jump = λ t is. none_is t (sym f.2 ∙ is);
       })
-      f.1 (right s (step 1 e) h (past i h c s) (p + 1) out one f.3 m.1 g.2 room b (backs_farther 1 p (p + 1) h e.back refl k) o)
+      f.1 (right s (step 1 e) h (past i h c s) (p + 1) out one f.3 m.1 g.2 room b (backs_farther 1 p (p + 1) e.entered e.back refl k) o)
   right (ahead l j n s) e h c p out one f m g room b k o =
       let z = finish_size s (p + 1) in let t = p + 1 + n in
       at_op h p (finish (p + 1) s) c (at_line l (j t)) (rows_of h (p + 1) s) m.0 g.0
@@ -218,7 +219,7 @@ module _ (found : List (Option ℕ)) (lines : List Line) (table : List CatchRow)
                   (subst (DepthAt found t) (f.3 ∙ sym (after_leap j f.0 t c)) (look_right s (step 1 e) h (past (j 0) h c s) (p + 1) n f.4 m.1 b less (omega (arith, f.2, one)))),
             );
       })
-      (omega (arith, (f.0).takes t, f.1)) (right s (step 1 e) h (past (j 0) h c s) (p + 1) out one f.4 m.1 g.2 room b (backs_farther 1 p (p + 1) h e.back refl k) o)
+      (omega (arith, (f.0).takes t, f.1)) (right s (step 1 e) h (past (j 0) h c s) (p + 1) out one f.4 m.1 g.2 room b (backs_farther 1 p (p + 1) e.entered e.back refl k) o)
   right (behind l j n s) e h c p out one f m g room b k o =
       let z = finish_size s (p + 1) in let t = p - n in
       let w = k n f.2 in
@@ -230,7 +231,7 @@ module _ (found : List (Option ℕ)) (lines : List Line) (table : List CatchRow)
             let same : t ≡ u = some_is t u (sym ((f.0).target t) ∙ is) in
             (subst (λ y. y < end) same (omega (arith, z, room)), subst (λ y. DepthAt found y (depth_after (j t) c)) same (subst (DepthAt found t) (f.3 ∙ sym (after_leap j f.0 t c)) w.1));
       })
-      (omega (arith, (f.0).takes t, f.1)) (right s (step 1 e) h (past (j 0) h c s) (p + 1) out one f.4 m.1 g.2 room b (backs_farther 1 p (p + 1) h e.back refl k) o)
+      (omega (arith, (f.0).takes t, f.1)) (right s (step 1 e) h (past (j 0) h c s) (p + 1) out one f.4 m.1 g.2 room b (backs_farther 1 p (p + 1) e.entered e.back refl k) o)
   right (deep l j s) e h c p out one f m g room b k o =
       let z = finish_size s (p + 1) in
       at_op h p (finish (p + 1) s) c (at_line l (j h)) (rows_of h (p + 1) s) m.0 g.0
@@ -239,12 +240,12 @@ module _ (found : List (Option ℕ)) (lines : List Line) (table : List CatchRow)
         next = λ on less. subst (DepthAt found (p + 1)) (past_on (j h) h c s on) (at_start s (step 1 e) h (past (j h) h c s) (p + 1) f.3 m.1 b less);
         jump = λ t is. none_is t (sym f.2 ∙ is);
       })
-      f.1 (right s (step 1 e) h (past (j h) h c s) (p + 1) out one f.3 m.1 g.2 room b (backs_farther 1 p (p + 1) h e.back refl k) o)
+      f.1 (right s (step 1 e) h (past (j h) h c s) (p + 1) out one f.3 m.1 g.2 room b (backs_farther 1 p (p + 1) e.entered e.back refl k) o)
   right (part d a s) e h c p out one f m g room b k o =
       let y = finish_size a p in let z = finish_size s (finish p a) in
       let inner : Right (h + d) p (finish p a) (rows_of (h + d) p a) =
-          right a within_part (h + d) (h + d) p out (omega arith) f.3 m.0 g.0 (omega (arith, f.2, z, room)) (at_start s (step (size a) e) h (h + d + 1) (finish p a) f.4 m.1 b) (backs_none p (h + d)) (outers_none (finish p a) (h + d)) in
-      let rest : Right h (finish p a) (finish (finish p a) s) (rows_of h (finish p a) s) = right s (step (size a) e) h (h + d + 1) (finish p a) out one f.4 m.1 g.1 room b (backs_farther (size a) p (finish p a) h e.back y k) o in
+          right a within_part (h + d) (h + d) p out (omega arith) f.3 m.0 g.0 (omega (arith, f.2, z, room)) (at_start s (step (size a) e) h (h + d + 1) (finish p a) f.4 m.1 b) (backs_none p 0) (outers_none (finish p a) (h + d)) in
+      let rest : Right h (finish p a) (finish (finish p a) s) (rows_of h (finish p a) s) = right s (step (size a) e) h (h + d + 1) (finish p a) out one f.4 m.1 g.1 room b (backs_farther (size a) p (finish p a) e.entered e.back y k) o in
       record {
         led = span_both Led p (finish p a) (finish (finish p a) s) inner.led rest.led;
         spared = span_both (Spares h) p (finish p a) (finish (finish p a) s) (spares_less h (h + d) p (finish p a) (omega arith) inner.spared) rest.spared;
@@ -253,21 +254,21 @@ module _ (found : List (Option ℕ)) (lines : List Line) (table : List CatchRow)
   right (held kind far r a s) e h c p out one f m g room b k o =
       let y = finish_size a p in let z = finish_size s (finish p a) in
       let inner : Right h p (finish p a) (rows_of h p a) =
-          right a (within_held e s) h h p (row_over kind h p (finish p a) far r ∷ out) (omega arith) f.4 m.0 g.0 (omega (arith, f.2, z, room)) (at_start s (behind_held e a) h (h + 1) (finish p a) f.5 m.1 b) (backs_none p h)
+          right a (within_held e s) h c p (row_over kind h p (finish p a) far r ∷ out) (omega arith) f.4 m.0 g.0 (omega (arith, f.2, z, room)) (at_start s (behind_held e c a) h (h + 1) (finish p a) f.5 m.1 b) (backs_none p 0)
           (λ n is. outers_held h (finish p a) n e s e.room refl room b is) in
       let rest : Right h (finish p a) (finish (finish p a) s) (rows_of h (finish p a) s) =
-          right s (behind_held e a) h (h + 1) (finish p a) out one f.5 m.1 g.1 room b
-          (λ n is. let same : size a ≡ n = some_is (size a) n is in (omega (arith, same, y), subst (λ x. DepthAt found x h) (omega (arith, same, y)) (at_first a (within_held e s) h h p f.1 f.4 m.0))) o in
+          right s (behind_held e c a) h (h + 1) (finish p a) out one f.5 m.1 g.1 room b
+          (λ n is. let same : size a ≡ n = some_is (size a) n is in (omega (arith, same, y), subst (λ x. DepthAt found x c) (omega (arith, same, y)) (at_first a (within_held e s) h c p f.1 f.4 m.0))) o in
       let goes : (finish p a + far < end) × DepthAt found (finish p a + far) (h + 1) = on_from y z f.3 in
       record {
         led = span_both Led p (finish p a) (finish (finish p a) s) inner.led rest.led;
         spared = span_both (Spares h) p (finish p a) (finish (finish p a) s) inner.spared rest.spared;
         caught = every_join RowRight (rows_of h p a) (row_over kind h p (finish p a) far r ∷ rows_of h (finish p a) s) inner.caught
-            (record { from = omega (arith, f.1, y, z, room); to = omega (arith, z, room); cont = goes.0; has = row_has h p far kind r a s e f.1 f.4 m.0 goes.1; kept = inner.spared }, rest.caught);
+            (record { from = omega (arith, f.1, y, z, room); to = omega (arith, z, room); cont = goes.0; has = row_has h c p far kind r a s e f.0 f.1 f.4 m.0 goes.1; kept = inner.spared }, rest.caught);
       }
     where
       on_from : finish p a ≡ p + size a → finish (finish p a) s ≡ finish p a + size s → GoesOn e h far s → (finish p a + far < end) × DepthAt found (finish p a + far) (h + 1)
       on_from y z (inl x) =
           let less : finish p a + far < end = omega (arith, x.0, z, room) in
-          (less, subst (DepthAt found (finish p a + far)) x.1 (look_right s (behind_held e a) h (h + 1) (finish p a) far f.5 m.1 b less (omega (arith, x.0, one))))
+          (less, subst (DepthAt found (finish p a + far)) x.1 (look_right s (behind_held e c a) h (h + 1) (finish p a) far f.5 m.1 b less (omega (arith, x.0, one))))
       on_from y z (inr x) = let w = o x.0 x.1 in (omega (arith, w.0, x.2, z), subst (λ q. DepthAt found q (h + 1)) (omega (arith, x.2, z)) w.1)
