@@ -657,3 +657,160 @@ operated_fit {h} line call at_line depth f x n flags t c d e k w =
     (calling (h + depth + 1) (plain_calls f 1 0 (inl refl)) (omega arith) (omega arith)
     (by_send_fit line call depth x n flags (h + depth + 1) d e refl (finished refl)))
 
+mutual
+  tree_fits : (l : Where) (k : Bool) (t : Tree) → IsFormed k t → (h : ℕ) → Fit 1 h h (shape l t)
+  tree_fits l k (at s (nil_value)) f h = puts refl refl refl refl refl h
+  tree_fits l k (at s (true_value)) f h = puts refl refl refl refl refl h
+  tree_fits l k (at s (false_value)) f h = puts refl refl refl refl refl h
+  tree_fits l k (at s (integer i)) f h = puts refl refl refl refl refl h
+  tree_fits l k (at s (symbol x)) f h = puts refl refl refl refl refl h
+  tree_fits l k (at s (text x)) f h = puts refl refl refl refl refl h
+  tree_fits l k (at s (self_value)) f h = puts refl refl refl refl refl h
+  tree_fits l k (at s (file_name)) f h = puts refl refl refl refl refl h
+  tree_fits l k (at s (folder_name)) f h = puts refl refl refl refl refl h
+  tree_fits l k (at s (line_number)) f h = puts refl refl refl refl refl h
+  tree_fits l k (at s (local x)) f h = puts refl refl refl refl refl h
+  tree_fits l k (at s (instance x)) f h = puts refl refl refl refl refl h
+  tree_fits l k (at s (global x)) f h = puts refl refl refl refl refl h
+  tree_fits l k (at s (joined ps)) f h = pieces_fit l (own l s) 0 ps h (h + count_pieces ps) (pieces_whole l k ps f) (omega arith) (omega arith) (on (h + 1) (omega arith) (omega arith) refl refl (omega arith) (finished refl))
+  tree_fits l k (at s (array ts ks)) f h = args_fit l 0 ts h (h + count ts) (trees_whole l k ts f.1) (omega arith) (omega arith) (on (h + 1) (omega arith) (omega arith) refl refl (omega arith) (finished refl))
+  tree_fits l k (at s (hash ps)) f h = pairs_fit l 0 ps h (h + 2 * count_pairs ps) (pairs_whole l k ps f) (omega arith) (omega arith) (on (h + 1) (omega arith) (omega arith) refl refl (omega arith) (finished refl))
+  tree_fits l k (at s (range a c e)) f h =
+      inside (omega arith) (omega arith) (tree_fits l k a f.0 (h + 0)) (inside (omega arith) (omega arith) (tree_fits l k c f.1 (h + 1)) (on (h + 1) (omega arith) (omega arith) refl refl (omega arith) (finished refl)))
+  tree_fits l k (at s (constant_path o top xs)) f h = path_fit l o top xs (own l s) (other_whole l k o f.1) h
+  tree_fits l k (at s (assign t g)) f h =
+      inside (omega arith) (omega arith) (tree_fits l k t f (h + 0)) (on (h + 2) (omega arith) (omega arith) refl refl (omega arith) (setting l g (omega arith) (finished (omega arith))))
+  tree_fits l k (at s (assign_all ts gs)) f h =
+      values_fit l ts (own l s) (trees_whole l k ts f)
+      (on (h + 2) (omega arith) (omega arith) refl refl (omega arith)
+      (on (h + 1 + length gs) (omega arith) (omega arith) refl refl (omega arith) (sets_fit l (own l s) gs (h + 1 + length gs) refl (finished refl))))
+  tree_fits l k (at s (assign_attribute a t m)) f h = attribute_fit h (start l s) (own l s) m (self_flag a) (shape l a) (shape l t) (self_bit a) (tree_fits l k a f.0) (tree_fits l k t f.1)
+  tree_fits l k (at s (assign_index a i t)) f h = index_fit h (start l s) (own l s) (self_flag a) (shape l a) (shape l i) (shape l t) (self_bit a) (tree_fits l k a f.0) (tree_fits l k i f.1.0) (tree_fits l k t f.1.1)
+  tree_fits l k (at s (operate_attribute a x t y m n)) f h =
+      attribute_read_fit (start l s) (own l s) x (self_flag a) (self_bit a) (tree_fits l k a f.0) (operated_fit (start l s) (own l s) (line_at l n) 2 y m 1 (self_flag a) (shape l t) (h + 3) refl (self_bit a) (omega arith) (tree_fits l k t f.1))
+  tree_fits l k (at s (or_attribute a x t m)) f h =
+      attribute_read_fit (start l s) (own l s) x (self_flag a) (self_bit a) (tree_fits l k a f.0)
+      (or_set_fit (start l s) (own l s) BranchIf 2 m 1 (self_flag a) (shape l t) (h + 3) leaps_if refl refl refl refl (self_bit a) (omega arith) (tree_fits l k t f.1))
+  tree_fits l k (at s (and_attribute a x t m)) f h =
+      attribute_read_fit (start l s) (own l s) x (self_flag a) (self_bit a) (tree_fits l k a f.0)
+      (or_set_fit (start l s) (own l s) BranchUnless 2 m 1 (self_flag a) (shape l t) (h + 3) leaps_unless refl refl refl refl (self_bit a) (omega arith) (tree_fits l k t f.1))
+  tree_fits l k (at s (operate_index a i t y n)) f h =
+      index_read_fit (start l s) (own l s) (self_flag a) (self_bit a) (tree_fits l k a f.0) (tree_fits l k i f.1.0)
+      (operated_fit (start l s) (own l s) (line_at l n) 3 y (codes "[]=") 2 (self_flag a) (shape l t) (h + 4) refl (self_bit a) (omega arith) (tree_fits l k t f.1.1))
+  tree_fits l k (at s (or_index a i t)) f h =
+      index_read_fit (start l s) (own l s) (self_flag a) (self_bit a) (tree_fits l k a f.0) (tree_fits l k i f.1.0)
+      (or_set_fit (start l s) (own l s) BranchIf 3 (codes "[]=") 2 (self_flag a) (shape l t) (h + 4) leaps_if refl refl refl refl (self_bit a) (omega arith) (tree_fits l k t f.1.1))
+  tree_fits l k (at s (and_index a i t)) f h =
+      index_read_fit (start l s) (own l s) (self_flag a) (self_bit a) (tree_fits l k a f.0) (tree_fits l k i f.1.0)
+      (or_set_fit (start l s) (own l s) BranchUnless 3 (codes "[]=") 2 (self_flag a) (shape l t) (h + 4) leaps_unless refl refl refl refl (self_bit a) (omega arith) (tree_fits l k t f.1.1))
+  tree_fits l k (at s (send o ts ks v x bare t)) f h =
+      receiver_fit l o (start l s) (other_whole l k o f.1.0)
+      (call_fit l ts v (own l s) (Send x (count ts) ks (receiver_flag o + value_flag v + bare_flag bare)) t (h + 1) (trees_whole l k ts f.1.1.0) (other_whole l k v f.1.1.1.0)
+      (λ q. send_calls x (count ts) ks (receiver_flag o + value_flag v + bare_flag bare) q (valued v) (flags_value (receiver_flag o) v bare (receiver_bit o))) refl)
+  tree_fits l k (at s (safe_send a ts ks v x t)) f h =
+      safe_fit h l (start l s) (shape l a) _ (tree_fits l k a f.1.0)
+      (call_fit l ts v (own l s) (Send x (count ts) ks (self_flag a + value_flag v)) t (h + 1) (trees_whole l k ts f.1.1.0) (other_whole l k v f.1.1.1.0)
+      (λ q. send_calls x (count ts) ks (self_flag a + value_flag v) q (valued v) (two_flags (self_flag a) v (self_bit a))) refl)
+  tree_fits l k (at s (yield ts ks)) f h = args_fit l 0 ts h (h + count ts) (trees_whole l k ts f.1) (omega arith) (omega arith) (on (h + 1) (omega arith) (omega arith) refl refl (omega arith) (finished refl))
+  tree_fits l k (at s (super ts ks v t)) f h =
+      on (h + 1) (omega arith) (omega arith) refl refl (omega arith)
+      (call_fit l ts v (own l s) (InvokeSuper (count ts) ks (1 + value_flag v)) t (h + 1) (trees_whole l k ts f.1.0) (other_whole l k v f.1.1.0)
+      (λ q. super_calls (count ts) ks (1 + value_flag v) q (valued v) (two_flags 1 v (inr refl))) refl)
+  tree_fits l k (at s (bare_super t)) f h =
+      on (h + 1) (omega arith) (omega arith) refl refl (omega arith)
+      (gets_fit l (own l s) (names_of_params (params_of l.sight.body)) (h + 1) (h + 1 + length (names_of_params (params_of l.sight.body))) (omega arith) refl
+      (literal_fit l (own l s) (InvokeSuper (length (names_of_params (params_of l.sight.body))) [] 1) t (1 + length (names_of_params (params_of l.sight.body)) + 0)
+      (λ q. super_calls (length (names_of_params (params_of l.sight.body))) [] 1 q 0 refl) (omega arith)))
+  tree_fits l k (at s (bare_raise)) f h =
+      on (h + 1) (omega arith) (omega arith) refl refl (omega arith)
+      (deep_on (h + 2) (omega arith) (omega arith) refl refl (omega arith)
+      (calling (h + 1) (plain_calls (codes "raise") 1 1 (inr refl)) (omega arith) (omega arith) (finished refl)))
+  tree_fits l k (at s (statements ts)) f h = all_fit l (own l s) ts (trees_whole l k ts f) h
+  tree_fits l k (at s (both a c)) f h = logic_fit h (own l s) BranchUnless (shape l a) (shape l c) leaps_unless refl refl refl (tree_fits l k a f.0) (tree_fits l k c f.1)
+  tree_fits l k (at s (either a c)) f h = logic_fit h (own l s) BranchIf (shape l a) (shape l c) leaps_if refl refl refl (tree_fits l k a f.0) (tree_fits l k c f.1)
+  tree_fits l k (at s (negated a)) f h =
+      inside (omega arith) (omega arith) (tree_fits l k a f (h + 0)) (calling (h + 1) (plain_calls (codes "!") 0 (self_flag a) (self_bit a)) (omega arith) (omega arith) (finished refl))
+  tree_fits l k (at s (if_else c a o)) f h = if_fit h (own l s) (shape l c) (shape l a) (other_shape l o) (tree_fits l k c f.0) (tree_fits l k a f.1.0) (other_fit l o (other_whole l k o f.1.1))
+  tree_fits l k (at s (while_loop a c u false)) f h = while_fit h (own l s) u (shape (looped l) a) (shape l c) (tree_fits (looped l) k a f.0) (tree_fits l k c f.1)
+  tree_fits l k (at s (while_loop a c u true)) f h = turns_fit (own l s) u (shape (looped l) a) (shape l c) (tree_fits (looped l) k a f.0) (tree_fits l k c f.1)
+  tree_fits l k (at s (case_of a ws o)) f h = case_fit h l (own l s) (shape l a) ws o (tree_fits l k a f.0) (whens_whole l k ws f.1.0) (other_whole l k o f.1.1)
+  tree_fits l k (at s (case_tests ws o)) f h = case_tests_fit h l (own l s) ws o (whens_whole l k ws f.0) (other_whole l k o f.1)
+  tree_fits l k (at s (return_with ts)) f h = values_fit l ts (own l s) (trees_whole l k ts f) (on (h + 1) (omega arith) (omega arith) refl refl (omega arith) (finished refl))
+  tree_fits l k (at s (break_with ts)) f h =
+      values_fit l ts (own l s) (trees_whole l k ts f)
+      (throw_fit (own l s) l.loop 1 3 (on (h + 1) (omega arith) (omega arith) refl refl (omega arith) (finished refl)) (on (h + 1) (omega arith) (omega arith) refl refl (omega arith) (finished refl)))
+  tree_fits l k (at s (next_with ts)) f h =
+      values_fit l ts (own l s) (trees_whole l k ts f)
+      (throw_fit (own l s) l.loop 2 4 (on (h + 1) (omega arith) (omega arith) refl refl (omega arith) (finished refl)) (on (h + 1) (omega arith) (omega arith) refl refl (omega arith) (finished refl)))
+  tree_fits l k (at s (retry)) f h = on (h + 1) (omega arith) (omega arith) refl refl (omega arith) (on (h + 1) (omega arith) (omega arith) refl refl (omega arith) (finished refl))
+  tree_fits l k (at s (rescue a o c)) f h = rescue_fit h (number_of l c) (shape l a) (last_shape l (own l s) o) (tree_fits l k a f.0) (last_fit h l (own l s) o (other_whole l k o f.1.0))
+  tree_fits l k (at s (ensure a c)) f h = ensure_fit h (own l s) (number_of l c) (shape l a) (tree_fits l k a f.0)
+  tree_fits l k (at s (method x t y)) f h = on h (omega arith) (omega arith) refl refl (omega arith) (on (h + 1) (omega arith) (omega arith) refl refl (omega arith) (finished refl))
+  tree_fits l k (at s (class without x t)) f h = on (h + 1) (omega arith) (omega arith) refl refl (omega arith) (on (h + 1) (omega arith) (omega arith) refl refl (omega arith) (finished refl))
+  tree_fits l k (at s (class (with c) x t)) f h = inside (omega arith) (omega arith) (tree_fits l k c f.0 (h + 0)) (on (h + 1) (omega arith) (omega arith) refl refl (omega arith) (finished refl))
+  tree_fits l k (at s (module_named x t)) f h = on (h + 1) (omega arith) (omega arith) refl refl (omega arith) (on (h + 1) (omega arith) (omega arith) refl refl (omega arith) (finished refl))
+  tree_fits l k (at s (rescue_sequence cs)) f h = absurd f
+  tree_fits l k (at s (ensure_sequence a)) f h = absurd f
+  tree_fits l k (at s (body ps t)) f h = absurd f
+
+  trees_whole : (l : Where) (k : Bool) (ts : Trees) → TreesFormed k ts → TreesWhole l ts
+  trees_whole l k no_more f = tt
+  trees_whole l k (more t ts) f = (tree_fits l k t f.0, trees_whole l k ts f.1)
+
+  other_whole : (l : Where) (k : Bool) (o : Other) → OtherFormed k o → OtherWhole l o
+  other_whole l k without f = tt
+  other_whole l k (with t) f = tree_fits l k t f
+
+  pairs_whole : (l : Where) (k : Bool) (ps : Pairs) → PairsFormed k ps → PairsWhole l ps
+  pairs_whole l k no_pair f = tt
+  pairs_whole l k (pair t u ps) f = (tree_fits l k t f.0, tree_fits l k u f.1.0, pairs_whole l k ps f.1.1)
+
+  pieces_whole : (l : Where) (k : Bool) (ps : Pieces) → PiecesFormed k ps → PiecesWhole l ps
+  pieces_whole l k no_piece f = tt
+  pieces_whole l k (plain_piece x ps) f = pieces_whole l k ps f
+  pieces_whole l k (code_piece t ps) f = (tree_fits l k t f.0, pieces_whole l k ps f.1)
+
+  whens_whole : (l : Where) (k : Bool) (ws : Whens) → WhensFormed k ws → WhensWhole l ws
+  whens_whole l k no_when f = tt
+  whens_whole l k (when ts t ws) f = (trees_whole l k ts f.0, tree_fits l k t f.1.0, whens_whole l k ws f.1.1)
+
+clauses_whole : (l : Where) (k : Bool) (cs : Rescues) → ClausesFormed k cs → ClausesWhole l cs
+clauses_whole l k no_clause f = tt
+clauses_whole l k (clause ts x t cs) f = (trees_whole l k ts f.0, tree_fits l k t f.1.0, clauses_whole l k cs f.1.1)
+
+params_whole : (l : Where) (k : Bool) (ps : Params) → ParamsFormed k ps → ParamsWhole l ps
+params_whole l k no_param f = tt
+params_whole l k (required x ps) f = params_whole l k ps f
+params_whole l k (optional x t ps) f = (tree_fits l k t f.0, params_whole l k ps f.1)
+params_whole l k (rest_param x ps) f = params_whole l k ps f
+params_whole l k (block_param x ps) f = params_whole l k ps f
+
+-- ---- whole sequences, which nothing stands behind
+
+params_fit : {h : ℕ} (l : Where) (ps : Params) {k : Shape} → 0 < size k → ParamsWhole l ps → Fit 0 h h k → Fit 0 h h (params_shape l ps k)
+params_fit l no_param less w f = f
+params_fit l (required x ps) less w f = params_fit l ps less w f
+params_fit {h} l (optional x t ps) {k} less w f = inside (omega arith) (omega arith) (w.0 (h + 0)) (setting l (to_local x) (omega arith) (at_depth h (omega arith) (params_fit l ps less w.1 f)))
+params_fit l (rest_param x ps) less w f = params_fit l ps less w f
+params_fit l (block_param x ps) less w f = params_fit l ps less w f
+
+pub body_fits : (l : Where) (h : ℕ) (t : Tree) → IsBody t → Fit 0 h h (shape l t)
+body_fits l h (at s (body ps t)) f =
+    params_fit l ps (omega arith) (params_whole l false ps f.1.0)
+    (inside (omega arith) (omega arith) (tree_fits l false t f.1.1 (h + 0)) (off (h + 1) (omega arith) (omega arith) refl refl refl (finished refl)))
+body_fits l h (at s f) g = absurd g
+
+pub rescue_part_fits : (l : Where) (h : ℕ) (t : Tree) → 1 ≤ h → IsRescuePart t → Fit 0 h h (shape l t)
+rescue_part_fits l h (at s (rescue_sequence cs)) one f =
+    let w = clauses_whole l true cs f in
+    clauses_fit l (own l s) cs 0 one w
+    (bodies_land l (own l s) cs 0 _ w (λ n d g. looks_on (begins h (bodies_shape l cs (own l s))) n (omega arith) refl g) (omega arith))
+    (off (begins h (bodies_shape l cs (own l s))) (omega arith) (omega arith) refl refl refl (bodies_fit h l (own l s) cs one w))
+rescue_part_fits l h (at s f) one g = absurd g
+
+pub ensure_part_fits : (l : Where) (h : ℕ) (t : Tree) → IsEnsurePart t → Fit 0 h h (shape l t)
+ensure_part_fits l h (at s (ensure_sequence a)) f =
+    inside (omega arith) (omega arith) (tree_fits l false a f (h + 0))
+    (on h (omega arith) (omega arith) refl refl (omega arith)
+    (off (h + 1) (omega arith) (omega arith) refl refl refl (finished refl)))
+ensure_part_fits l h (at s f) g = absurd g
