@@ -11,3 +11,5 @@ pub mod RowsTrees
 pub mod RisingRow
 pub mod Keeps
 pub mod BodyRuns
+pub mod ByPlaces
+pub mod FoundTrees

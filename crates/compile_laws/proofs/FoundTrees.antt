@@ -1,0 +1,232 @@
+-- Where the tables have each sequence of a tree, all that is to be found in the tree is found, and its sequences have the places of the tree.
+use Rattle.std.proofs.Common.{◌≡◌, ℕ, true, false, refl, sym, ap, ap₂, ◌∙◌, subst, List, [], ◌∷◌, ◌++◌}
+use Rattle.std.specs.List.{AllByRecursion}
+use Rattle.std.specs.Prelude.{⊤}
+use Rattle.std.proofs.lemmas.List.{map-append}
+use Rattle.ruby_tree.specs.Names.{Bytes}
+use Rattle.ruby_tree.specs.Tree.{SourcePosition, Tree, at, Form, nil_value, true_value, false_value, integer, symbol, text, self_value, file_name, folder_name, line_number, local, instance, global, joined, array, hash, range, constant_path, assign, assign_all, assign_attribute, assign_index, operate_attribute, or_attribute, and_attribute, operate_index, or_index, and_index, send, safe_send, yield, super, bare_super, bare_raise, statements, both, either, negated, if_else, while_loop, case_of, case_tests, return_with, break_with, next_with, retry, rescue, ensure, rescue_sequence, ensure_sequence, method, class, module_named, body, Trees, no_more, more, Other, without, with, Pairs, no_pair, pair, Pieces, no_piece, plain_piece, code_piece, Whens, no_when, when, Rescues, no_clause, clause, Params, no_param, required, optional, rest_param, block_param}
+use Rattle.iseq_types.specs.declared.sequences.SeqKind.{SeqKind}
+use Rattle.iseq_types.specs.declared.sequences.SeqKind.TheVariants as kinds
+use Rattle.ruby_meaning.specs.Locals.{place_of, first_line_of}
+use Rattle.ruby_meaning.specs.Sequences.{places, form_places, trees_places, other_places, pairs_places, pieces_places, whens_places, clauses_places, params_places, sequence_number}
+use Rattle.ruby_meaning.specs.Levels.{IsHoused, FormHoused, BlockHoused, TreesHoused, OtherHoused, PairsHoused, PiecesHoused, WhensHoused, ClausesHoused, ParamsHoused}
+use Rattle.code_meaning.specs.Code.{Routine}
+use Rattle.compile_table.specs.Shapes.{Where, looped, number_of, in_rescue, in_ensure}
+use Rattle.compile_table.specs.Sequences.{Compiled, compiled_body, compiled_part, in_body, in_block, sequences, form_sequences, block_sequences, trees_sequences, other_sequences, pairs_sequences, pieces_sequences, whens_sequences, clauses_sequences, params_sequences}
+use Rattle.tree_laws.specs.Formed.{HasOneBlock, IsFormed, FormFormed, IsBody, IsBodyForm, BlockFormed, IsRescuePart, IsRescueForm, IsEnsurePart, IsEnsureForm, TreesFormed, OtherFormed, PairsFormed, PiecesFormed, WhensFormed, ClausesFormed, ParamsFormed}
+use Rattle.compile_laws.specs.Finds.{part_routine, Finds, FindsForm, FindsTrees, FindsOther, FindsPairs, FindsPieces, FindsWhens, FindsRescueForm, FindsEnsureForm, FindsClauses, FindsParams, FindsBlock}
+use Rattle.compile_laws.specs.Found.{HasSequence, IsBodyKind, IsFoundBody}
+use Rattle.compile_laws.proofs.ByPlaces.{spots}
+
+module _ (seqs : ℕ → Routine) (bodies : ℕ → Tree) where
+  -- the tables have each of these sequences
+  abbrev pub Have : List ℕ → List Compiled → Type 0
+  Have q cs = AllByRecursion (HasSequence seqs bodies q) cs
+
+  -- What is known of one of the sequences of a file with this path and these places.
+  pub record IsKnown (z : Bytes) (q : List ℕ) (c : Compiled) : Type 0 where
+    pub number : c.inner.number ≡ sequence_number q c.place
+    pub place : place_of c.tree ≡ c.place
+    pub path : c.inner.path ≡ z
+    pub places : c.inner.places ≡ q
+    pub body : IsBodyKind c.kind → IsFoundBody seqs bodies c
+
+  abbrev pub Known : Bytes → List ℕ → List Compiled → Type 0
+  Known z q cs = AllByRecursion (IsKnown z q) cs
+
+  -- where the nodes of a body stand
+  record Opens (inner : Where) (t : Tree) : Type 0 where
+    no_loop : inner.loop ≡ false
+    no_clause : inner.clause ≡ false
+    number : inner.number ≡ sequence_number inner.places (place_of t)
+    first : inner.first ≡ first_line_of t
+    in_sight : inner.sight.body ≡ t
+
+  -- What is told of the sequences of a part: their places, and that a fact holds where the tables have them.
+  pub record Told (z : Bytes) (q : List ℕ) (A : Type 0) (cs : List Compiled) (places : List ℕ) : Type 0 where
+    pub same : spots cs ≡ places
+    pub holds : Have q cs → A × Known z q cs
+
+  split : (q : List ℕ) (xs ys : List Compiled) → Have q (xs ++ ys) → Have q xs × Have q ys
+  split q [] ys h = (tt, h)
+  split q (x ∷ xs) ys h = let r = split q xs ys h.1 in ((h.0, r.0), r.1)
+
+  join : (z : Bytes) (q : List ℕ) (xs ys : List Compiled) → Known z q xs → Known z q ys → Known z q (xs ++ ys)
+  join z q [] ys a b = b
+  join z q (x ∷ xs) ys a b = (a.0, join z q xs ys a.1 b)
+
+  -- nothing stands in it
+  none : {z : Bytes} {q : List ℕ} {A : Type 0} → A → Told z q A [] []
+  none a = record { same = refl; holds = λ h. (a, tt) }
+
+  -- the fact as it is to be read
+  read : {z : Bytes} {q : List ℕ} {A B : Type 0} {cs : List Compiled} {ps : List ℕ} → (A → B) → Told z q A cs ps → Told z q B cs ps
+  read f a = record { same = a.same; holds = λ h. let r = a.holds h in (f r.0, r.1) }
+
+  infixr 10 ◌⊕◌
+  ◌⊕◌ : {z : Bytes} {q : List ℕ} {A B : Type 0} {xs ys : List Compiled} {ps rs : List ℕ} → Told z q A xs ps → Told z q B ys rs → Told z q (A × B) (xs ++ ys) (ps ++ rs)
+  ◌⊕◌ {z} {q} {A} {B} {xs} {ys} {ps} {rs} a b = record {
+    same = map-append (λ (c : Compiled). c.place) xs ys ∙ ap₂ (λ (m n : List ℕ). m ++ n) a.same b.same;
+    holds = λ h. let r = split q xs ys h in let x = a.holds r.0 in let y = b.holds r.1 in ((x.0, y.0), join z q xs ys x.1 y.1);
+  }
+
+  three : {z : Bytes} {q : List ℕ} {A B C : Type 0} {xs ys zs : List Compiled} {ps rs ss : List ℕ} → Told z q A xs ps → Told z q B ys rs → Told z q C zs ss → Told z q (A × B × C) (xs ++ (ys ++ zs)) (ps ++ (rs ++ ss))
+  three a b c = read (λ x. (x.0, x.1.0, x.1.1)) (a ⊕ (b ⊕ c))
+
+  four : {z : Bytes} {q : List ℕ} {A B C D : Type 0} {xs ys zs us : List Compiled} {ps rs ss ts : List ℕ} → Told z q A xs ps → Told z q B ys rs → Told z q C zs ss → Told z q D us ts → Told z q (A × B × C × D) (xs ++ (ys ++ (zs ++ us))) (ps ++ (rs ++ (ss ++ ts)))
+  four a b c d = read (λ x. (x.0, x.1.0, x.1.1.0, x.1.1.1)) (a ⊕ (b ⊕ (c ⊕ d)))
+
+  -- a body, of which all is found where the tables have its own sequence and those in it
+  begun : (s : SourcePosition) (ps : Params) (t : Tree) (l inner : Where) (kind : SeqKind) (x : Bytes) → Opens inner (at s (body ps t))
+      → Told inner.path inner.places (FindsParams seqs bodies inner ps × Finds seqs bodies inner t) (params_sequences inner ps ++ sequences inner t) (params_places ps ++ places t)
+      → Told inner.path inner.places (bodies (sequence_number inner.places s.place) ≡ at s (body ps t)) (compiled_body l inner kind x (at s (body ps t)) ∷ sequences inner (at s (body ps t))) (places (at s (body ps t)))
+  begun s ps t l inner kind x o a = record {
+    same = ap (λ n. s.place ∷ n) a.same;
+    holds = λ h. let r = a.holds h.1 in (
+      h.0.tree,
+      (
+        record {
+          number = o.number;
+          place = refl;
+          path = refl;
+          places = refl;
+          body = λ k. record { routine = refl; no_loop = o.no_loop; no_clause = o.no_clause; first = o.first; in_sight = o.in_sight; finds = r.0 };
+        },
+        r.1,
+      ),
+    );
+  }
+
+  -- a rescue or an ensure part
+  parted : {A : Type 0} {ps : List ℕ} (s : SourcePosition) (f : Form) (l inner : Where) (kind : SeqKind) → (IsBodyKind kind → ⊥) → inner.number ≡ sequence_number inner.places s.place → Told inner.path inner.places A (form_sequences inner f) ps
+      → Told inner.path inner.places ((seqs (sequence_number inner.places s.place) ≡ part_routine inner kind (at s f)) × A) (compiled_part l inner kind (at s f) ∷ sequences inner (at s f)) (s.place ∷ ps)
+  parted s f l inner kind part e a = record {
+    same = ap (λ n. s.place ∷ n) a.same;
+    holds = λ h. let r = a.holds h.1 in ((h.0.routine, r.0), (record { number = e; place = refl; path = refl; places = refl; body = λ k. absurd (part k) }, r.1));
+  }
+
+  opened : (l : Where) (t : Tree) → Opens (in_body l t) t
+  opened l t = record { no_loop = refl; no_clause = refl; number = refl; first = refl; in_sight = refl }
+
+  opened_block : (l : Where) (t : Tree) → Opens (in_block l t) t
+  opened_block l t = record { no_loop = refl; no_clause = refl; number = refl; first = refl; in_sight = refl }
+
+  mutual
+    pub tree_told : (t : Tree) (l : Where) → IsFormed l.clause t → IsHoused l.sight t → Told l.path l.places (Finds seqs bodies l t) (sequences l t) (places t)
+    tree_told (at s f) l fm hs = form_told f s l fm hs
+
+    form_told : (f : Form) (s : SourcePosition) (l : Where) → FormFormed l.clause f → FormHoused l.sight f → Told l.path l.places (FindsForm seqs bodies l f) (form_sequences l f) (form_places s.place f)
+    form_told nil_value s l fm hs = none tt
+    form_told true_value s l fm hs = none tt
+    form_told false_value s l fm hs = none tt
+    form_told (integer i) s l fm hs = none tt
+    form_told (symbol x) s l fm hs = none tt
+    form_told (text x) s l fm hs = none tt
+    form_told self_value s l fm hs = none tt
+    form_told file_name s l fm hs = none tt
+    form_told folder_name s l fm hs = none tt
+    form_told line_number s l fm hs = none tt
+    form_told (local x) s l fm hs = none hs
+    form_told (instance x) s l fm hs = none tt
+    form_told (global x) s l fm hs = none tt
+    form_told (joined ps) s l fm hs = pieces_told ps l fm hs
+    form_told (array ts ks) s l fm hs = trees_told ts l fm.1 hs
+    form_told (hash ps) s l fm hs = pairs_told ps l fm hs
+    form_told (range a c e) s l fm hs = tree_told a l fm.0 hs.0 ⊕ tree_told c l fm.1 hs.1
+    form_told (constant_path o top xs) s l fm hs = other_told o l fm.1 hs
+    form_told (assign t g) s l fm hs = read (λ x. (x, hs.0)) (tree_told t l fm hs.1)
+    form_told (assign_all ts gs) s l fm hs = read (λ x. (x, hs.0)) (trees_told ts l fm hs.1)
+    form_told (assign_attribute a t m) s l fm hs = tree_told a l fm.0 hs.0 ⊕ tree_told t l fm.1 hs.1
+    form_told (assign_index a i t) s l fm hs = three (tree_told a l fm.0 hs.0) (tree_told i l fm.1.0 hs.1.0) (tree_told t l fm.1.1 hs.1.1)
+    form_told (operate_attribute a x t f m n) s l fm hs = tree_told a l fm.0 hs.0 ⊕ tree_told t l fm.1 hs.1
+    form_told (or_attribute a x t m) s l fm hs = tree_told a l fm.0 hs.0 ⊕ tree_told t l fm.1 hs.1
+    form_told (and_attribute a x t m) s l fm hs = tree_told a l fm.0 hs.0 ⊕ tree_told t l fm.1 hs.1
+    form_told (operate_index a i t f n) s l fm hs = three (tree_told a l fm.0 hs.0) (tree_told i l fm.1.0 hs.1.0) (tree_told t l fm.1.1 hs.1.1)
+    form_told (or_index a i t) s l fm hs = three (tree_told a l fm.0 hs.0) (tree_told i l fm.1.0 hs.1.0) (tree_told t l fm.1.1 hs.1.1)
+    form_told (and_index a i t) s l fm hs = three (tree_told a l fm.0 hs.0) (tree_told i l fm.1.0 hs.1.0) (tree_told t l fm.1.1 hs.1.1)
+    form_told (send o ts ks v x bare t) s l fm hs = four (other_told o l fm.1.0 hs.0) (trees_told ts l fm.1.1.0 hs.1.0) (other_told v l fm.1.1.1.0 hs.1.1.0) (block_told t v l fm.0.1 fm.1.1.1.1 hs.1.1.1)
+    form_told (safe_send a ts ks v x t) s l fm hs = four (tree_told a l fm.1.0 hs.0) (trees_told ts l fm.1.1.0 hs.1.0) (other_told v l fm.1.1.1.0 hs.1.1.0) (block_told t v l fm.0.1 fm.1.1.1.1 hs.1.1.1)
+    form_told (yield ts ks) s l fm hs = trees_told ts l fm.1 hs
+    form_told (super ts ks v t) s l fm hs = three (trees_told ts l fm.1.0 hs.0) (other_told v l fm.1.1.0 hs.1.0) (block_told t v l fm.0.1 fm.1.1.1 hs.1.1)
+    form_told (bare_super t) s l fm hs = read (λ x. (hs.0, x)) (block_told t without l tt fm hs.1)
+    form_told bare_raise s l fm hs = none fm
+    form_told (statements ts) s l fm hs = trees_told ts l fm hs
+    form_told (both a c) s l fm hs = tree_told a l fm.0 hs.0 ⊕ tree_told c l fm.1 hs.1
+    form_told (either a c) s l fm hs = tree_told a l fm.0 hs.0 ⊕ tree_told c l fm.1 hs.1
+    form_told (negated a) s l fm hs = tree_told a l fm hs
+    form_told (if_else c a o) s l fm hs = three (tree_told c l fm.0 hs.0) (tree_told a l fm.1.0 hs.1.0) (other_told o l fm.1.1 hs.1.1)
+    form_told (while_loop a c u f) s l fm hs = tree_told a (looped l) fm.0 hs.0 ⊕ tree_told c l fm.1 hs.1
+    form_told (case_of a ws o) s l fm hs = three (tree_told a l fm.0 hs.0) (whens_told ws l fm.1.0 hs.1.0) (other_told o l fm.1.1 hs.1.1)
+    form_told (case_tests ws o) s l fm hs = whens_told ws l fm.0 hs.0 ⊕ other_told o l fm.1 hs.1
+    form_told (return_with ts) s l fm hs = trees_told ts l fm hs
+    form_told (break_with ts) s l fm hs = trees_told ts l fm hs
+    form_told (next_with ts) s l fm hs = trees_told ts l fm hs
+    form_told retry s l fm hs = none tt
+    form_told (rescue a o (at r f)) s l fm hs =
+        read (λ x. (x.0, x.1, x.2.0, x.2.1)) (three (tree_told a l fm.0 hs.0) (other_told o l fm.1.0 hs.1.0) (rescue_told f r l (in_rescue l (at r f)) refl refl fm.1.1 hs.1.1))
+    form_told (ensure a (at r f)) s l fm hs = read (λ x. (x.0, x.1.0, x.1.1)) (tree_told a l fm.0 hs.0 ⊕ ensure_told f r l (in_ensure l (at r f)) refl refl fm.1 hs.1)
+    form_told (rescue_sequence cs) s l fm hs = absurd fm
+    form_told (ensure_sequence a) s l fm hs = absurd fm
+    form_told (method x t f) s l fm hs = body_told t l (in_body l t) kinds.Method x (opened l t) fm hs
+    form_told (class o x t) s l fm hs = other_told o l fm.0 hs.0 ⊕ body_told t l (in_body l t) kinds.Class x (opened l t) fm.1.0 hs.1
+    form_told (module_named x t) s l fm hs = body_told t l (in_body l t) kinds.Class x (opened l t) fm.0 hs
+    form_told (body ps t) s l fm hs = absurd fm
+
+    body_told : (t : Tree) (l inner : Where) (kind : SeqKind) (x : Bytes) → Opens inner t → IsBody t → IsHoused inner.sight t
+        → Told inner.path inner.places (bodies (sequence_number inner.places (place_of t)) ≡ t) (compiled_body l inner kind x t ∷ sequences inner t) (places t)
+    body_told (at s f) l inner kind x o fm hs = body_form_told f s l inner kind x o fm hs
+
+    body_form_told : (f : Form) (s : SourcePosition) (l inner : Where) (kind : SeqKind) (x : Bytes) → Opens inner (at s f) → IsBodyForm f → FormHoused inner.sight f
+        → Told inner.path inner.places (bodies (sequence_number inner.places s.place) ≡ at s f) (compiled_body l inner kind x (at s f) ∷ sequences inner (at s f)) (places (at s f))
+    body_form_told (body ps t) s l inner kind x o fm hs =
+        begun s ps t l inner kind x o (params_told ps inner (subst (λ c. ParamsFormed c ps) (sym o.no_clause) fm.1.0) hs.0 ⊕ tree_told t inner (subst (λ c. IsFormed c t) (sym o.no_clause) fm.1.1) hs.1)
+    body_form_told f s l inner kind x o fm hs = absurd fm
+
+    -- a call with a block value has no literal block
+    block_told : (t v : Other) (l : Where) → HasOneBlock v t → BlockFormed t → BlockHoused l.sight t → Told l.path l.places (FindsBlock seqs bodies l t v) (block_sequences l t) (other_places t)
+    block_told without v l one fm hs = none tt
+    block_told (with t) without l one fm hs = body_told t l (in_block l t) kinds.Block [] (opened_block l t) fm hs
+    block_told (with t) (with u) l one fm hs = absurd one
+
+    rescue_told : (f : Form) (s : SourcePosition) (l inner : Where) → inner.clause ≡ true → inner.number ≡ sequence_number inner.places s.place → IsRescueForm f → FormHoused inner.sight f
+        → Told inner.path inner.places ((seqs (sequence_number inner.places s.place) ≡ part_routine inner kinds.Rescue (at s f)) × FindsRescueForm seqs bodies inner f) (compiled_part l inner kinds.Rescue (at s f) ∷ sequences inner (at s f)) (places (at s f))
+    rescue_told (rescue_sequence cs) s l inner e n fm hs = parted s (rescue_sequence cs) l inner kinds.Rescue (λ k. k) n (clauses_told cs inner (subst (λ c. ClausesFormed c cs) (sym e) fm) hs)
+    rescue_told f s l inner e n fm hs = absurd fm
+
+    ensure_told : (f : Form) (s : SourcePosition) (l inner : Where) → inner.clause ≡ false → inner.number ≡ sequence_number inner.places s.place → IsEnsureForm f → FormHoused inner.sight f
+        → Told inner.path inner.places ((seqs (sequence_number inner.places s.place) ≡ part_routine inner kinds.Ensure (at s f)) × FindsEnsureForm seqs bodies inner f) (compiled_part l inner kinds.Ensure (at s f) ∷ sequences inner (at s f)) (places (at s f))
+    ensure_told (ensure_sequence a) s l inner e n fm hs = parted s (ensure_sequence a) l inner kinds.Ensure (λ k. k) n (tree_told a inner (subst (λ c. IsFormed c a) (sym e) fm) hs)
+    ensure_told f s l inner e n fm hs = absurd fm
+
+    trees_told : (ts : Trees) (l : Where) → TreesFormed l.clause ts → TreesHoused l.sight ts → Told l.path l.places (FindsTrees seqs bodies l ts) (trees_sequences l ts) (trees_places ts)
+    trees_told no_more l fm hs = none tt
+    trees_told (more t ts) l fm hs = tree_told t l fm.0 hs.0 ⊕ trees_told ts l fm.1 hs.1
+
+    other_told : (o : Other) (l : Where) → OtherFormed l.clause o → OtherHoused l.sight o → Told l.path l.places (FindsOther seqs bodies l o) (other_sequences l o) (other_places o)
+    other_told without l fm hs = none tt
+    other_told (with t) l fm hs = tree_told t l fm hs
+
+    pairs_told : (ps : Pairs) (l : Where) → PairsFormed l.clause ps → PairsHoused l.sight ps → Told l.path l.places (FindsPairs seqs bodies l ps) (pairs_sequences l ps) (pairs_places ps)
+    pairs_told no_pair l fm hs = none tt
+    pairs_told (pair t u ps) l fm hs = three (tree_told t l fm.0 hs.0) (tree_told u l fm.1.0 hs.1.0) (pairs_told ps l fm.1.1 hs.1.1)
+
+    pieces_told : (ps : Pieces) (l : Where) → PiecesFormed l.clause ps → PiecesHoused l.sight ps → Told l.path l.places (FindsPieces seqs bodies l ps) (pieces_sequences l ps) (pieces_places ps)
+    pieces_told no_piece l fm hs = none tt
+    pieces_told (plain_piece x ps) l fm hs = pieces_told ps l fm hs
+    pieces_told (code_piece t ps) l fm hs = tree_told t l fm.0 hs.0 ⊕ pieces_told ps l fm.1 hs.1
+
+    whens_told : (ws : Whens) (l : Where) → WhensFormed l.clause ws → WhensHoused l.sight ws → Told l.path l.places (FindsWhens seqs bodies l ws) (whens_sequences l ws) (whens_places ws)
+    whens_told no_when l fm hs = none tt
+    whens_told (when ts t ws) l fm hs = three (trees_told ts l fm.0 hs.0) (tree_told t l fm.1.0 hs.1.0) (whens_told ws l fm.1.1 hs.1.1)
+
+    clauses_told : (cs : Rescues) (l : Where) → ClausesFormed l.clause cs → ClausesHoused l.sight cs → Told l.path l.places (FindsClauses seqs bodies l cs) (clauses_sequences l cs) (clauses_places cs)
+    clauses_told no_clause l fm hs = none tt
+    clauses_told (clause ts x t cs) l fm hs =
+        read (λ y. (y.0, hs.1.0, y.1, y.2)) (three (trees_told ts l fm.0 hs.0) (tree_told t l fm.1.0 hs.1.1.0) (clauses_told cs l fm.1.1 hs.1.1.1))
+
+    params_told : (ps : Params) (l : Where) → ParamsFormed l.clause ps → ParamsHoused l.sight ps → Told l.path l.places (FindsParams seqs bodies l ps) (params_sequences l ps) (params_places ps)
+    params_told no_param l fm hs = none tt
+    params_told (required x ps) l fm hs = params_told ps l fm hs.1
+    params_told (optional x t ps) l fm hs = read (λ y. (hs.0, y.0, y.1)) (tree_told t l fm.0 hs.1.0 ⊕ params_told ps l fm.1 hs.1.1)
+    params_told (rest_param x ps) l fm hs = params_told ps l fm hs.1
+    params_told (block_param x ps) l fm hs = params_told ps l fm hs.1

@@ -1,0 +1,44 @@
+-- Tables that have the sequences of a program under their numbers, and bodies of which all that they have is found.
+use Rattle.std.specs.Prelude.{◌≡◌, ℕ, false, List, ⊤}
+use Rattle.ruby_tree.specs.Names.{Bytes}
+use Rattle.ruby_tree.specs.Tree.{Tree}
+use Rattle.iseq_types.specs.declared.sequences.SeqKind.{SeqKind}
+use Rattle.iseq_types.specs.declared.sequences.SeqKind.TheVariants as kinds
+use Rattle.ruby_meaning.specs.Locals.{place_of, first_line_of}
+use Rattle.ruby_meaning.specs.Sequences.{places, sequence_number}
+use Rattle.code_meaning.specs.Code.{Routine}
+use Rattle.compile_table.specs.Sequences.{Compiled, routine_of, sequence_at, routines, bodies}
+use Rattle.compile_laws.specs.Finds.{body_routine, FindsBody}
+
+-- the sequence of a file, a method, a class, a module or a block, and no part of a body
+abbrev pub IsBodyKind : SeqKind → Type 0
+IsBodyKind kinds.File = ⊤
+IsBodyKind kinds.Method = ⊤
+IsBodyKind kinds.Class = ⊤
+IsBodyKind kinds.Block = ⊤
+IsBodyKind kinds.Rescue = ⊥
+IsBodyKind kinds.Ensure = ⊥
+
+-- Of a file whose sequences have these places, the tables have this one under its number.
+pub record HasSequence (seqs : ℕ → Routine) (bodies : ℕ → Tree) (places : List ℕ) (c : Compiled) : Type 0 where
+  pub routine : seqs (sequence_number places c.place) ≡ routine_of c
+  pub tree : bodies (sequence_number places c.place) ≡ c.tree
+
+-- The sequence is that of its tree, a body, which stands in no loop and in no clauses of its own and is the body in sight there; and the tables
+-- have all that the body has.
+pub record IsFoundBody (seqs : ℕ → Routine) (bodies : ℕ → Tree) (c : Compiled) : Type 0 where
+  pub routine : routine_of c ≡ body_routine c.inner c.kind c.body.name c.tree
+  pub no_loop : c.inner.loop ≡ false
+  pub no_clause : c.inner.clause ≡ false
+  pub first : c.inner.first ≡ first_line_of c.tree
+  pub in_sight : c.inner.sight.body ≡ c.tree
+  pub finds : FindsBody seqs bodies c.inner c.tree
+
+-- The sequence stands in the tables of a program under its number, and its nodes stand in this file; and the tables have all that it has if it is
+-- a body.
+pub record IsOfProgram (path : Bytes) (t : Tree) (c : Compiled) : Type 0 where
+  pub numbered : sequence_at path t c.inner.number ≡ c
+  pub place : place_of c.tree ≡ c.place
+  pub in_file : c.inner.path ≡ path
+  pub in_places : c.inner.places ≡ places t
+  pub body : IsBodyKind c.kind → IsFoundBody (routines path t) (bodies path t) c
