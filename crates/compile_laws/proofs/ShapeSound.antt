@@ -1,6 +1,7 @@
 -- Code that fits is right at each of its places, and so are its rows.
 use Rattle.std.proofs.Common.{◌≡◌, ℕ, zero, suc, ◌+◌, ◌-◌, ◌≤◌, ◌<◌, ◌⊎◌, inl, inr, Bool, true, false, cond, refl, sym, subst, ap, ◌∙◌, arith, List, [], ◌∷◌, ◌++◌, Option, Some, None}
-use Rattle.std.specs.Prelude.{⊤, IsTrue, slice_get, nat_lt}
+use Rattle.std.specs.Prelude.{IsTrue, slice_get, nat_lt}
+use Rattle.std.specs.List.{AllByRecursion}
 use Rattle.std.proofs.lemmas.Bool.{lt-ltb, cases_lt}
 use Rattle.iseq_types.specs.declared.instructions.Instr.{Instr}
 use Rattle.iseq_types.specs.declared.sequences.CatchKind.{CatchKind}
@@ -9,15 +10,15 @@ use Rattle.iseq_types.specs.declared.sequences.CatchRow.{CatchRow}
 use Rattle.iseq_types.specs.declared.sequences.Line.{Line}
 use Rattle.iseq_types.specs.Instructions.{needs_of, takes_of, leaves_of, depth_after, target_of, goes_on}
 use Rattle.iseq_types.specs.Depths.{DepthAt, HasRow}
+use Rattle.iseq_types.specs.Sound.{IsOrdered}
 use Rattle.code_meaning.specs.Code.{at_line, row_over, Shape, done, op, ahead, behind, deep, part, held, size, finish, rows_of, Placed}
 use Rattle.code_meaning.proofs.Sizes.{finish_size}
-use Rattle.compile_laws.proofs.RowsOrder.{Every}
 use Rattle.compile_laws.proofs.ShapeDepths.{begins, past, look, look_part, look_held, Leaps, Edges, farther, step, within_part, outer_of, within_held, behind_held, GoesOn, Fits, Marked}
 
 pub some_is : {A : Type 0} (a b : A) → Some a ≡ Some b → a ≡ b
 some_is a b e = cc
 
-none_is : {A X : Type 0} (a : A) → None ≡ Some a → X
+pub none_is : {A X : Type 0} (a : A) → None ≡ Some a → X
 none_is a e = absurd cc
 
 zero_or_more : (n : ℕ) → (n ≡ 0) ⊎ (0 < n)
@@ -38,7 +39,7 @@ less_or_not a b = pick (zero_or_more (b - a))
     pick (inl z) = inr (omega arith)
     pick (inr z) = inl (omega arith)
 
-pub every_join : (Q : CatchRow → Type 0) (xs ys : List CatchRow) → Every Q xs → Every Q ys → Every Q (xs ++ ys)
+pub every_join : (Q : CatchRow → Type 0) (xs ys : List CatchRow) → AllByRecursion Q xs → AllByRecursion Q ys → AllByRecursion Q (xs ++ ys)
 every_join Q [] ys a b = b
 every_join Q (x ∷ xs) ys a b = (a.0, every_join Q xs ys a.1 b)
 
@@ -49,7 +50,7 @@ past_on : (i : Instr) (h c : ℕ) (s : Shape) → IsTrue (goes_on i) → past i 
 past_on i h c s e = ap (λ x. cond x (depth_after i c) (begins h s)) e
 
 -- below a number or not
-split_at : {X : Type 0} (a b : ℕ) → (a < b → X) → (b ≤ a → X) → X
+pub split_at : {X : Type 0} (a b : ℕ) → (a < b → X) → (b ≤ a → X) → X
 split_at {X} a b f g = pick (less_or_not a b)
   where
     pick : (a < b) ⊎ (b ≤ a) → X
@@ -73,6 +74,7 @@ module _ (found : List (Option ℕ)) (lines : List Line) (table : List CatchRow)
   pub record RowRight (row : CatchRow) : Type 0 where
     pub from : row.from < end
     pub to : row.to ≤ end
+    pub ordered : IsOrdered row
     pub cont : row.cont < end
     pub has : HasRow found row
     pub kept : Span (Spares row.sp) row.from row.to
@@ -81,7 +83,7 @@ module _ (found : List (Option ℕ)) (lines : List Line) (table : List CatchRow)
   pub record Right (h p q : ℕ) (rows : List CatchRow) : Type 0 where
     pub led : Span Led p q
     pub spared : Span (Spares h) p q
-    pub caught : Every RowRight rows
+    pub caught : AllByRecursion RowRight rows
 
   span_none : (Q : ℕ → ℕ → Line → Type 0) (p : ℕ) → Span Q p p
   span_none Q p place depth line lo hi d f = absurd (omega (arith, lo, hi))
@@ -123,10 +125,10 @@ module _ (found : List (Option ℕ)) (lines : List Line) (table : List CatchRow)
   abbrev pub Outers : Option ℕ → ℕ → ℕ → Type 0
   Outers b q h = (m : ℕ) → b ≡ Some m → (q + m < end) × DepthAt found (q + m) (h + 1)
 
-  backs_none : (p h : ℕ) → Backs None p h
+  pub backs_none : (p h : ℕ) → Backs None p h
   backs_none p h m e = none_is m e
 
-  outers_none : (p h : ℕ) → Outers None p h
+  pub outers_none : (p h : ℕ) → Outers None p h
   outers_none p h m e = none_is m e
 
   backs_farther : (k p q h : ℕ) (b : Option ℕ) → q ≡ p + k → Backs b p h → Backs (farther k b) q h
@@ -135,7 +137,7 @@ module _ (found : List (Option ℕ)) (lines : List Line) (table : List CatchRow)
       let same : n + k ≡ m = some_is (n + k) m g in let r = f n refl in
       (omega (arith, same, e, r.0), subst (λ y. DepthAt found y h) (omega (arith, same, e, r.0)) r.1)
 
-  at_first : (s : Shape) (e : Edges) (h c p : ℕ) → 0 < size s → Fits e h c s → Marked found h c p s → DepthAt found p c
+  pub at_first : (s : Shape) (e : Edges) (h c p : ℕ) → 0 < size s → Fits e h c s → Marked found h c p s → DepthAt found p c
   at_first done e h c p less f m = absurd (omega (arith, less))
   at_first (op l i s) e h c p less f m = m.0
   at_first (ahead l j n s) e h c p less f m = m.0
@@ -264,7 +266,7 @@ module _ (found : List (Option ℕ)) (lines : List Line) (table : List CatchRow)
         led = span_both Led p (finish p a) (finish (finish p a) s) inner.led rest.led;
         spared = span_both (Spares h) p (finish p a) (finish (finish p a) s) inner.spared rest.spared;
         caught = every_join RowRight (rows_of h p a) (row_over kind h p (finish p a) far r ∷ rows_of h (finish p a) s) inner.caught
-            (record { from = omega (arith, f.1, y, z, room); to = omega (arith, z, room); cont = goes.0; has = row_has h c p far kind r a s e f.0 f.1 f.4 m.0 goes.1; kept = inner.spared }, rest.caught);
+            (record { from = omega (arith, f.1, y, z, room); to = omega (arith, z, room); ordered = (omega (arith, f.1, y), omega arith); cont = goes.0; has = row_has h c p far kind r a s e f.0 f.1 f.4 m.0 goes.1; kept = inner.spared }, rest.caught);
       }
     where
       on_from : finish p a ≡ p + size a → finish (finish p a) s ≡ finish p a + size s → GoesOn e h far s → (finish p a + far < end) × DepthAt found (finish p a + far) (h + 1)
