@@ -20,7 +20,7 @@ use Rattle.compile_laws.proofs.ShapeDepths.{past, depths_of, depths_length, Edge
 use Rattle.compile_laws.proofs.ShapeSound.{some_is, none_is, split_at, Span, Led, RowRight, Right, backs_none, outers_none, at_first, right}
 use Rattle.compile_laws.proofs.FitSteps.{fit_size}
 
-lines_size : (s : Shape) (h p : ℕ) → length (lines_of h p s) ≡ size s
+pub lines_size : (s : Shape) (h p : ℕ) → length (lines_of h p s) ≡ size s
 lines_size done h p = refl
 lines_size (op l i s) h p = let e = lines_size s h (p + 1) in omega arith
 lines_size (ahead l j n s) h p = let e = lines_size s h (p + 1) in omega arith
