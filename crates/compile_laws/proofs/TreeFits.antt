@@ -66,14 +66,14 @@ record Calls (i : Instr) (n : ℕ) : Type 0 where
 calling : {x h c line n : ℕ} {i : Instr} {s : Shape} (c1 : ℕ) → Calls i n → h + n ≤ c → c1 ≡ c - n + 1 → Fit x h c1 s → Fit x h c (op line i s)
 calling {x} {h} {c} {line} {n} {i} {s} c1 e less k f = on c1 (omega (arith, less, e.needs)) (omega (arith, less, e.takes)) e.target e.goes (omega (arith, less, k, e.takes, e.leaves)) f
 
-self_bit : (a : Tree) → (self_flag a ≡ 0) ⊎ (self_flag a ≡ 1)
+pub self_bit : (a : Tree) → (self_flag a ≡ 0) ⊎ (self_flag a ≡ 1)
 self_bit (at s f) = by_form f
   where
     by_form : (f : Form) → (is_self_form f ≡ 0) ⊎ (is_self_form f ≡ 1)
     by_form self_value = inr refl
     by_form f = inl refl
 
-receiver_bit : (o : Other) → (receiver_flag o ≡ 0) ⊎ (receiver_flag o ≡ 1)
+pub receiver_bit : (o : Other) → (receiver_flag o ≡ 0) ⊎ (receiver_flag o ≡ 1)
 receiver_bit without = inr refl
 receiver_bit (with t) = self_bit t
 
