@@ -13,3 +13,6 @@ pub mod Keeps
 pub mod BodyRuns
 pub mod ByPlaces
 pub mod FoundTrees
+pub mod FoundPrograms
+pub mod ProgramsRun
+pub mod ReadText

@@ -1,11 +1,14 @@
 -- Tables that have the sequences of a program under their numbers, and bodies of which all that they have is found.
-use Rattle.std.specs.Prelude.{◌≡◌, ℕ, false, List, ⊤}
+use Rattle.std.specs.Prelude.{◌≡◌, ℕ, false, List, [], Option, None, ⊤}
 use Rattle.ruby_tree.specs.Names.{Bytes}
 use Rattle.ruby_tree.specs.Tree.{Tree}
 use Rattle.iseq_types.specs.declared.sequences.SeqKind.{SeqKind}
 use Rattle.iseq_types.specs.declared.sequences.SeqKind.TheVariants as kinds
-use Rattle.ruby_meaning.specs.Locals.{place_of, first_line_of}
+use Rattle.ruby_meaning.specs.Locals.{place_of, first_line_of, locals_of}
 use Rattle.ruby_meaning.specs.Sequences.{places, sequence_number}
+use Rattle.ruby_meaning.specs.World.{World, Frame}
+use Rattle.ruby_meaning.specs.Calls.{all_nil, with_environment, next_environment}
+use Rattle.ruby_meaning.specs.Loads.{file_code, file_frame}
 use Rattle.code_meaning.specs.Code.{Routine}
 use Rattle.compile_table.specs.Sequences.{Compiled, routine_of, sequence_at, routines, bodies}
 use Rattle.compile_laws.specs.Finds.{body_routine, FindsBody}
@@ -42,3 +45,10 @@ pub record IsOfProgram (path : Bytes) (t : Tree) (c : Compiled) : Type 0 where
   pub in_file : c.inner.path ≡ path
   pub in_places : c.inner.places ≡ places t
   pub body : IsBodyKind c.kind → IsFoundBody (routines path t) (bodies path t) c
+
+-- The frame that a load gives to the body of a file in this world, and the world with the environment of that frame.
+abbrev pub loaded_frame : Bytes → Option ℕ → Tree → Option (Bytes × ℕ) → List ℕ → List ℕ → World → Frame
+loaded_frame path load t outside inside calling w = file_frame (file_code path load t) (next_environment w) outside inside calling
+
+abbrev pub loaded_world : Tree → World → World
+loaded_world t w = with_environment None (all_nil (locals_of [] t)) w

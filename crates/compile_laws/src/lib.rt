@@ -3,4 +3,5 @@
 
 pub mod alike;
 pub mod bodies;
+pub mod found;
 pub mod sound;
