@@ -16,3 +16,12 @@ pub mod FoundTrees
 pub mod FoundPrograms
 pub mod ProgramsRun
 pub mod ReadText
+pub mod ShapeDepths
+pub mod ShapeSound
+pub mod FitSteps
+pub mod TreeFits
+pub mod SequenceSound
+pub mod SequenceEnds
+pub mod FineCode
+pub mod FineTrees
+pub mod FineSequences

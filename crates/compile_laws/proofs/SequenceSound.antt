@@ -55,14 +55,14 @@ some_at (None ∷ xs) k z a less = absurd a
 some_at (Some d ∷ xs) zero z a less = (d, refl)
 some_at (Some d ∷ xs) (suc k) z a less = some_at xs k z a (omega (arith, less))
 
-within_list : {X : Type 0} (xs : List X) (k : ℕ) (x : X) → slice_get xs k ≡ Some x → k < length xs
+pub within_list : {X : Type 0} (xs : List X) (k : ℕ) (x : X) → slice_get xs k ≡ Some x → k < length xs
 within_list xs k x e = split_at k (length xs) (λ less. less) (λ more. none_is x (sym (slice_get_past xs k more) ∙ e))
 
 if_some : (P : ℕ → Type 0) (o : Option ℕ) → ((t : ℕ) → o ≡ Some t → P t) → IfSome o P
 if_some P None f = tt
 if_some P (Some t) f = f t refl
 
-all_by : {X : Type 0} (P Q : X → Type 0) (xs : List X) → ((x : X) → P x → Q x) → AllByRecursion P xs → All Q xs
+pub all_by : {X : Type 0} (P Q : X → Type 0) (xs : List X) → ((x : X) → P x → Q x) → AllByRecursion P xs → All Q xs
 all_by {X} P Q xs f a = All-from_recursion Q xs (each xs a)
   where
     each : (ys : List X) → AllByRecursion P ys → AllByRecursion Q ys

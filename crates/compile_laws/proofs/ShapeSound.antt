@@ -25,14 +25,14 @@ zero_or_more : (n : ℕ) → (n ≡ 0) ⊎ (0 < n)
 zero_or_more zero = inl refl
 zero_or_more (suc n) = inr (omega arith)
 
-same_or_less : (a b : ℕ) → a ≤ b → (a ≡ b) ⊎ (a < b)
+pub same_or_less : (a b : ℕ) → a ≤ b → (a ≡ b) ⊎ (a < b)
 same_or_less a b e = pick (zero_or_more (b - a))
   where
     pick : (b - a ≡ 0) ⊎ (0 < b - a) → (a ≡ b) ⊎ (a < b)
     pick (inl z) = inl (omega arith)
     pick (inr z) = inr (omega arith)
 
-less_or_not : (a b : ℕ) → (a < b) ⊎ (b ≤ a)
+pub less_or_not : (a b : ℕ) → (a < b) ⊎ (b ≤ a)
 less_or_not a b = pick (zero_or_more (b - a))
   where
     pick : (b - a ≡ 0) ⊎ (0 < b - a) → (a < b) ⊎ (b ≤ a)
