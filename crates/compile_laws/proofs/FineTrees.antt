@@ -1,6 +1,6 @@
 -- The code of each tree has operands that are right, where its locals are held and its sequences are known.
 use Rattle.std.proofs.Common.{◌≡◌, ◌≢◌, ℕ, zero, suc, ◌+◌, ◌-◌, ◌*◌, ◌%◌, ◌≤◌, ◌<◌, ◌⊎◌, inl, inr, Bool, true, false, cond, refl, sym, subst, ap, ◌∙◌, arith, List, [], ◌∷◌, ◌++◌, length, Option, Some, None, All}
-use Rattle.std.specs.Prelude.{⊤, codes}
+use Rattle.std.specs.Prelude.{⊤, codes, slice_get}
 use Rattle.std.specs.List.{AllByRecursion}
 use Rattle.std.proofs.lemmas.List.Elements.{All-nil}
 use Rattle.ruby_tree.specs.Names.{Bytes}
@@ -17,19 +17,25 @@ use Rattle.ruby_meaning.specs.Locals.{params_of, names_of_params, place_of}
 use Rattle.ruby_meaning.specs.Sequences.{sequence_number}
 use Rattle.code_meaning.specs.Code.{Shape, done, op, ahead, part, held, size}
 use Rattle.compile_table.specs.Shapes.{Where, looped, plain_send, set_by_send, number_of, count, count_pairs, get_local, set_local, gets, named, self_flag, receiver_flag, value_flag, bare_flag, throw_by, with_literal, path_start, open_end, on_self, own, start, line_at, in_rescue, in_ensure, shape, params_shape, all_shape, rest_shape, args_shape, pairs_shape, pieces_shape, path_shape, receiver_shape, value_shape, other_shape, last_shape, values_shape, patterns_shape, pattern_shape, cases_shape, tests_shape, test_shape, hits_shape, clauses_shape, clause_shape, classes_shape, bodies_shape}
-use Rattle.compile_table.specs.Sequences.{Compiled, compiled_body, compiled_part, in_body, sequences, block_sequences, trees_sequences, other_sequences, pairs_sequences, pieces_sequences, whens_sequences, clauses_sequences, params_sequences}
+use Rattle.compile_table.specs.Sequences.{Compiled, compiled_body, compiled_part, in_body, in_block, index_row, sequences, block_sequences, trees_sequences, other_sequences, pairs_sequences, pieces_sequences, whens_sequences, clauses_sequences, params_sequences}
 use Rattle.tree_laws.specs.Formed.{IsFormed, IsBody, IsRescuePart, IsEnsurePart, TreesFormed, OtherFormed, PairsFormed, PiecesFormed, WhensFormed, ClausesFormed, ParamsFormed}
 use Rattle.compile_laws.proofs.TreeFits.{self_bit, receiver_bit}
 use Rattle.compile_laws.proofs.FineCode as code
 use Rattle.compile_laws.proofs.FineCode.{MayPend, IsFine, Fine, nothing, plain, leaping, deeply, over, caught, ok, Stands, goal_fine, sets_fine, named_fine, spread_below, KnowsBlock, names, some, literal_fine, send_well, safe_well, super_well, bare_well, plain_well, by_send_fine, or_set_fine, attribute_read_fine, index_read_fine, turns_fine}
 
--- the sequences of a file with these places are in the index
-abbrev pub Children : List IndexRow → List ℕ → List Compiled → Type 0
-Children rows places cs = AllByRecursion (λ (c : Compiled). IsChild rows c.parent c.kind (sequence_number places c.place)) cs
+-- the index has a row for each of these sequences
+abbrev pub Children : List IndexRow → List Compiled → Type 0
+Children rows cs = AllByRecursion (λ (c : Compiled). slice_get rows c.inner.number ≡ Some (index_row c)) cs
 
-pub children_split : (rows : List IndexRow) (places : List ℕ) (xs ys : List Compiled) → Children rows places (xs ++ ys) → Children rows places xs × Children rows places ys
-children_split rows places [] ys a = (tt, a)
-children_split rows places (x ∷ xs) ys a = let r = children_split rows places xs ys a.1 in ((a.0, r.0), r.1)
+pub children_split : (rows : List IndexRow) (xs ys : List Compiled) → Children rows (xs ++ ys) → Children rows xs × Children rows ys
+children_split rows [] ys a = (tt, a)
+children_split rows (x ∷ xs) ys a = let r = children_split rows xs ys a.1 in ((a.0, r.0), r.1)
+
+pub rescue_number : (l : Where) (t : Tree) → (in_rescue l t).number ≡ number_of l t
+rescue_number l (at s f) = refl
+
+pub ensure_number : (l : Where) (t : Tree) → (in_ensure l t).number ≡ number_of l t
+ensure_number l (at s f) = refl
 
 twice_even : (n : ℕ) → 2 * n % 2 ≡ 0
 twice_even n = omega arith
@@ -173,12 +179,12 @@ module _ (rows : List IndexRow) (id : ℕ) (kind : SeqKind) where
       next free (next (tt, tt, tt, (omega arith, omega arith), tt) (next free (leap (λ n. free) f)))
   clause_fine l (more t ts) line far w f = classes_fine l (more t ts) line far w f
 
-  block_known : (l : Where) (k : Bool) (t : Other) → Stands rows id kind l k → Children rows l.places (block_sequences l t) → KnowsBlock rows id kind l t
-  block_known l k without a c = tt
-  block_known l k (with t) a c = subst (λ n. IsChild rows n kinds.Block (number_of l t)) a.number c.0
+  known : (l : Where) (k : Bool) (t : Tree) (c : Compiled) → Stands rows id kind l k → c.parent ≡ l.number → c.inner.number ≡ number_of l t → slice_get rows c.inner.number ≡ Some (index_row c) → IsChild rows id c.kind (number_of l t)
+  known l k t c a p n e = (index_row c, subst (λ m. slice_get rows m ≡ Some (index_row c)) n e, refl, p ∙ a.number)
 
-  known : (l : Where) (k : Bool) (child : SeqKind) (t : Tree) → Stands rows id kind l k → IsChild rows l.number child (number_of l t) → IsChild rows id child (number_of l t)
-  known l k child t a c = subst (λ n. IsChild rows n child (number_of l t)) a.number c
+  block_known : (l : Where) (k : Bool) (t : Other) → Stands rows id kind l k → Children rows (block_sequences l t) → KnowsBlock rows id kind l t
+  block_known l k without a c = tt
+  block_known l k (with t) a c = known l k t (compiled_body l (in_block l t) kinds.Block [] t) a refl refl c.0
 
   throw_well : (b : Bool) (n : ℕ) → n ≤ 7 → ¬ (n ≡ 0) → ¬ (n ≡ 7) → ¬ (n ≡ 6) → IsFine rows id kind b (Throw n)
   throw_well b n e f g k = (tt, tt, tt, tt, (e, λ z. pends z, λ z. absurd (k z)))
@@ -218,10 +224,10 @@ module _ (rows : List IndexRow) (id : ℕ) (kind : SeqKind) where
   looped_stands l k a = record { number = a.number; locals = a.locals; pends = a.pends }
 
   abbrev C : Where → List Compiled → Type 0
-  C l cs = Children rows l.places cs
+  C l cs = Children rows cs
 
   two : (l : Where) (xs ys : List Compiled) → C l (xs ++ ys) → C l xs × C l ys
-  two l xs ys c = children_split rows l.places xs ys c
+  two l xs ys c = children_split rows xs ys c
 
   three : (l : Where) (xs ys zs : List Compiled) → C l (xs ++ (ys ++ zs)) → C l xs × C l ys × C l zs
   three l xs ys zs c = let r = two l xs (ys ++ zs) c in let q = two l ys zs r.1 in (r.0, q.0, q.1)
@@ -344,16 +350,16 @@ module _ (rows : List IndexRow) (id : ℕ) (kind : SeqKind) where
     tree_fine (at s retry) l k b a f h c = next free (next (tt, tt, tt, tt, (omega arith, λ e. a.pends f, λ e. absurd (omega (arith, e)))) none)
     tree_fine (at s (rescue t o u)) l k b a f h c =
         let d = three l (sequences l t) (other_sequences l o) (compiled_part l (in_rescue l u) kinds.Rescue u ∷ sequences (in_rescue l u) u) c in
-        caught rows id kind (known l k kinds.Rescue u a d.2.0) (tree_fine t l k b a f.0 h.0 d.0) (last_fine b l (own l s) o (other_all o l k a f.1.0 h.1.0 d.1))
+        caught rows id kind (known l k u (compiled_part l (in_rescue l u) kinds.Rescue u) a refl (rescue_number l u) d.2.0) (tree_fine t l k b a f.0 h.0 d.0) (last_fine b l (own l s) o (other_all o l k a f.1.0 h.1.0 d.1))
     tree_fine (at s (ensure t u)) l k b a f h c =
         let d = two l (sequences l t) (compiled_part l (in_ensure l u) kinds.Ensure u ∷ sequences (in_ensure l u) u) c in
-        caught rows id kind (known l k kinds.Ensure u a d.1.0) (deeper (tree_fine t l k true a f.0 h.0 d.0) (next ensured_throw none)) none
-    tree_fine (at s (method x t y)) l k b a f h c = method_fine b y (own l s) (number_of l t) x (known l k kinds.Method t a c.0) (next free none)
-    tree_fine (at s (class without x t)) l k b a f h c = next free (class_fine b 0 (own l s) (number_of l t) x (omega arith) (known l k kinds.Class t a c.0))
+        caught rows id kind (known l k u (compiled_part l (in_ensure l u) kinds.Ensure u) a refl (ensure_number l u) d.1.0) (deeper (tree_fine t l k true a f.0 h.0 d.0) (next ensured_throw none)) none
+    tree_fine (at s (method x t y)) l k b a f h c = method_fine b y (own l s) (number_of l t) x (known l k t (compiled_body l (in_body l t) kinds.Method x t) a refl refl c.0) (next free none)
+    tree_fine (at s (class without x t)) l k b a f h c = next free (class_fine b 0 (own l s) (number_of l t) x (omega arith) (known l k t (compiled_body l (in_body l t) kinds.Class x t) a refl refl c.0))
     tree_fine (at s (class (with u) x t)) l k b a f h c =
         let d = two l (sequences l u) (compiled_body l (in_body l t) kinds.Class x t ∷ sequences (in_body l t) t) c in
-        deeper (tree_fine u l k b a f.0 h.0 d.0) (class_fine b 1 (own l s) (number_of l t) x (omega arith) (known l k kinds.Class t a d.1.0))
-    tree_fine (at s (module_named x t)) l k b a f h c = next free (class_fine b 2 (own l s) (number_of l t) x (omega arith) (known l k kinds.Class t a c.0))
+        deeper (tree_fine u l k b a f.0 h.0 d.0) (class_fine b 1 (own l s) (number_of l t) x (omega arith) (known l k t (compiled_body l (in_body l t) kinds.Class x t) a refl refl d.1.0))
+    tree_fine (at s (module_named x t)) l k b a f h c = next free (class_fine b 2 (own l s) (number_of l t) x (omega arith) (known l k t (compiled_body l (in_body l t) kinds.Class x t) a refl refl c.0))
     tree_fine (at s (rescue_sequence cs)) l k b a f h c = absurd f
     tree_fine (at s (ensure_sequence t)) l k b a f h c = absurd f
     tree_fine (at s (body ps t)) l k b a f h c = absurd f

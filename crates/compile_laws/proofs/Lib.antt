@@ -25,3 +25,6 @@ pub mod SequenceEnds
 pub mod FineCode
 pub mod FineTrees
 pub mod FineSequences
+pub mod HomedLocals
+pub mod SoundBodies
+pub mod SoundTrees
