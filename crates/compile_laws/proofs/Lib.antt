@@ -28,3 +28,4 @@ pub mod FineSequences
 pub mod HomedLocals
 pub mod SoundBodies
 pub mod SoundTrees
+pub mod Units

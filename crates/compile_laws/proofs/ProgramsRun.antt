@@ -1,6 +1,5 @@
 -- The bodies of programs run as what they mean.
-use Rattle.std.proofs.Common.{◌≡◌, ℕ, suc, false, refl, sym, ap, ◌∙◌, subst, arith, List, [], ◌∷◌, ◌++◌, length, length-append, Option, Some, None, slice_get}
-use Rattle.std.specs.List.{IsDistinct}
+use Rattle.std.proofs.Common.{◌≡◌, ℕ, false, refl, sym, ap, ◌∙◌, subst, arith, List, [], ◌∷◌, ◌++◌, length, length-append, Option, Some, None, slice_get}
 use Rattle.ruby_lexer.specs.Bytes.{Bytes as Source}
 use Rattle.ruby_tree.specs.Names.{Bytes}
 use Rattle.ruby_tree.specs.Tree.{Tree}
@@ -19,7 +18,7 @@ use Rattle.code_meaning.specs.Slots.{HasScopes}
 use Rattle.code_meaning.specs.Machine.{Runs}
 use Rattle.code_meaning.specs.Frames.{running, returning, Turns}
 use Rattle.code_meaning.proofs.Frames.{turns_keep}
-use Rattle.compile_table.specs.Sequences.{Compiled, compiled_file, routine_of, sequences_of, sequence_at, routines, bodies}
+use Rattle.compile_table.specs.Sequences.{Compiled, compiled_file, routine_of, routines, bodies}
 use Rattle.tree_laws.proofs.Apart.{places_apart}
 use Rattle.tree_laws.proofs.LocalsHeld.{housed}
 use Rattle.tree_laws.proofs.TextsFormed.{text_formed}

@@ -38,7 +38,7 @@ worked_reads = is_read worked_text (reading.tree worked_tree) computed
 
 pub worked_sequences-holds : worked_sequences
 unfolding digits is_utf8 chars lib.Utf8.encode
-worked_sequences-holds = refl
+worked_sequences-holds = (refl, refl)
 
 pub worked_finds-holds : worked_finds
 worked_finds-holds =

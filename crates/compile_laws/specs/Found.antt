@@ -5,7 +5,8 @@ use Rattle.ruby_tree.specs.Tree.{Tree}
 use Rattle.iseq_types.specs.declared.sequences.SeqKind.{SeqKind}
 use Rattle.iseq_types.specs.declared.sequences.SeqKind.TheVariants as kinds
 use Rattle.ruby_meaning.specs.Locals.{place_of, first_line_of, locals_of}
-use Rattle.ruby_meaning.specs.Sequences.{places, sequence_number}
+use Rattle.ruby_meaning.specs.Sequences.{places}
+use Rattle.ruby_meaning.specs.Levels.{Sight, file_sight, body_sight, block_sight}
 use Rattle.ruby_meaning.specs.World.{World, Frame}
 use Rattle.ruby_meaning.specs.Calls.{all_nil, with_environment, next_environment}
 use Rattle.ruby_meaning.specs.Loads.{file_code, file_frame}
@@ -22,10 +23,14 @@ IsBodyKind kinds.Block = ⊤
 IsBodyKind kinds.Rescue = ⊥
 IsBodyKind kinds.Ensure = ⊥
 
--- Of a file whose sequences have these places, the tables have this one under its number.
-pub record HasSequence (seqs : ℕ → Routine) (bodies : ℕ → Tree) (places : List ℕ) (c : Compiled) : Type 0 where
-  pub routine : seqs (sequence_number places c.place) ≡ routine_of c
-  pub tree : bodies (sequence_number places c.place) ≡ c.tree
+-- What is in sight in a sequence of the file with this tree: by its kind and its own tree, and by what is in sight in the sequence around it.
+abbrev pub sight_in : Tree → SeqKind → Sight → Tree → Sight
+sight_in t kinds.File around u = file_sight t
+sight_in t kinds.Method around u = body_sight u
+sight_in t kinds.Class around u = body_sight u
+sight_in t kinds.Block around u = block_sight around u
+sight_in t kinds.Rescue around u = around
+sight_in t kinds.Ensure around u = around
 
 -- The sequence is that of its tree, a body, which stands in no loop and in no clauses of its own and is the body in sight there; and the tables
 -- have all that the body has.
@@ -37,13 +42,14 @@ pub record IsFoundBody (seqs : ℕ → Routine) (bodies : ℕ → Tree) (c : Com
   pub in_sight : c.inner.sight.body ≡ c.tree
   pub finds : FindsBody seqs bodies c.inner c.tree
 
--- The sequence stands in the tables of a program under its number, and its nodes stand in this file; and the tables have all that it has if it is
--- a body.
+-- The sequence stands in the tables of a program under its number; its nodes stand in this file, and see what its kind and the sequence around it
+-- let them see; and the tables have all that it has if it is a body.
 pub record IsOfProgram (path : Bytes) (t : Tree) (c : Compiled) : Type 0 where
   pub numbered : sequence_at path t c.inner.number ≡ c
   pub place : place_of c.tree ≡ c.place
   pub in_file : c.inner.path ≡ path
   pub in_places : c.inner.places ≡ places t
+  pub sees : c.inner.sight ≡ sight_in t c.kind (sequence_at path t c.parent).inner.sight c.tree
   pub body : IsBodyKind c.kind → IsFoundBody (routines path t) (bodies path t) c
 
 -- The frame that a load gives to the body of a file in this world, and the world with the environment of that frame.

@@ -29,7 +29,8 @@ worked_path = codes "/e.rb"
 -- its program has the sequences of the file, the block and the clauses, in the order of their places
 abbrev pub worked_sequences : Type 0
 worked_sequences =
-    map (λ (c : Compiled). (c.kind, c.inner.number)) (sequences_of worked_path worked_tree) ≡ (kinds.File, 0) ∷ (kinds.Block, 1) ∷ (kinds.Rescue, 2) ∷ []
+    (map (λ (c : Compiled). c.kind) (sequences_of worked_path worked_tree) ≡ kinds.File ∷ kinds.Block ∷ kinds.Rescue ∷ [])
+    × (map (λ (c : Compiled). c.inner.number) (sequences_of worked_path worked_tree) ≡ 0 ∷ 1 ∷ 2 ∷ [])
 
 -- the tables of its program have all that the file's body has
 abbrev pub worked_finds : Type 0

@@ -1,6 +1,6 @@
 //! That the tables of a program have all that its bodies find by numbers, so that each runs as what
 //! it means.
-ghost use Rattle.std.specs.Prelude.{◌≡◌, ◌<◌, ℕ, false, List, [], Option, length, All};
+ghost use Rattle.std.specs.Prelude.{◌≡◌, ◌<◌, ℕ, false, List, [], Option, Some, length, slice_get, All};
 ghost use Rattle.ruby_lexer.specs.Bytes.{Bytes as Source};
 ghost use Rattle.ruby_tree.specs.Names.{Bytes};
 ghost use Rattle.ruby_tree.specs.Tree.{Tree};
@@ -14,7 +14,7 @@ ghost use Rattle.ruby_meaning.specs.Evaluation.{evaluate};
 ghost use Rattle.code_meaning.specs.Slots.{HasScopes};
 ghost use Rattle.code_meaning.specs.Machine.{Runs};
 ghost use Rattle.code_meaning.specs.Frames.{running, returning, Turns};
-ghost use Rattle.compile_table.specs.Sequences.{Compiled, sequences_of, sequence_at, routines, bodies};
+ghost use Rattle.compile_table.specs.Sequences.{Compiled, sequences_of, index_row, unit_of, sequence_at, routines, bodies};
 ghost use Rattle.compile_laws.specs.Finds.{Stands, start_of};
 ghost use Rattle.compile_laws.specs.WorkedText.{worked_text, worked_tree, worked_sequences, worked_finds};
 ghost use Rattle.compile_laws.specs.Found.{IsBodyKind, IsOfProgram, loaded_frame, loaded_world};
@@ -24,6 +24,13 @@ ghost use Rattle.compile_laws.specs.Found.{IsBodyKind, IsOfProgram, loaded_frame
 pub fn texts_find_their_bodies()
     ensures each { (path : Bytes) (source : Source) (t : Tree) → Reads source t → All (IsOfProgram path t) (sequences_of path t) }
     ensures number { (path : Bytes) (source : Source) (t : Tree) (n : ℕ) → Reads source t → n < length (sequences_of path t) → (sequence_at path t n).inner.number ≡ n }
+{}
+
+/// The unit of a tree has the bodies and the rows of the sequences that the tables have.
+pub fn units_have_their_sequences()
+    ensures bodies { (path : Bytes) (t : Tree) (n : ℕ) → n < length (sequences_of path t) → slice_get (unit_of path t).bodies n ≡ Some (routines path t n).body }
+    ensures rows { (path : Bytes) (t : Tree) (n : ℕ) → n < length (sequences_of path t) → slice_get (unit_of path t).rows n ≡ Some (index_row (sequence_at path t n)) }
+    ensures lengths { (path : Bytes) (t : Tree) → (length (unit_of path t).bodies ≡ length (sequences_of path t)) × (length (unit_of path t).rows ≡ length (sequences_of path t)) }
 {}
 
 /// A body of a program, run from its entry for the optional parameters that were given, comes to

@@ -8,5 +8,5 @@ pub returns : goal.returns
 returns a = record {
   runs = λ files path t c frame w o k s names out. runs_whole files path t c frame w o k s names out;
   machine = λ files path t c frame w o p k s names out ts.
-  ends_so files path t (routines path t c.inner.number) frame (start_of c.inner c.tree frame.given) w o (evaluate files c.tree frame w) (runs_whole files path t c frame w p k s names out) ts;
+      ends_so files path t (routines path t c.inner.number) frame (start_of c.inner c.tree frame.given) w o (evaluate files c.tree frame w) (runs_whole files path t c frame w p k s names out) ts;
 }

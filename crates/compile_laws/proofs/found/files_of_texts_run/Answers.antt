@@ -9,6 +9,6 @@ pub returns : goal.returns
 returns a = record {
   runs = λ files path load source t outside inside calling w R. file_runs files path load source t outside inside calling w R;
   machine = λ files path load source t outside inside calling w o R ts.
-  ends_so files path t (routines path t 0) (loaded_frame path load t outside inside calling w) 0 (loaded_world t w) o
-  (evaluate files (file_body t) (loaded_frame path load t outside inside calling w) (loaded_world t w)) (file_runs files path load source t outside inside calling w R) ts;
+      ends_so files path t (routines path t 0) (loaded_frame path load t outside inside calling w) 0 (loaded_world t w) o
+      (evaluate files (file_body t) (loaded_frame path load t outside inside calling w) (loaded_world t w)) (file_runs files path load source t outside inside calling w R) ts;
 }
