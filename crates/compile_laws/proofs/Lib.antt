@@ -29,3 +29,4 @@ pub mod HomedLocals
 pub mod SoundBodies
 pub mod SoundTrees
 pub mod Units
+pub mod SoundPrograms

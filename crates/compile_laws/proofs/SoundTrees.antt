@@ -72,7 +72,7 @@ module _ (rows : List IndexRow) (index : AreIndexRows rows) where
   three_sound xs ys zs c f g h = both_sound xs (ys ++ zs) c f (λ d. both_sound ys zs d g h)
 
   mutual
-    trees_in : (t : Tree) (l : Where) (k : Bool) → IsFormed k t → IsHoused l.sight t → H l → C (sequences l t) → AllSound (sequences l t)
+    pub trees_in : (t : Tree) (l : Where) (k : Bool) → IsFormed k t → IsHoused l.sight t → H l → C (sequences l t) → AllSound (sequences l t)
     trees_in (at s (joined ps)) l k f h m c = pieces_in ps l k f h m c
     trees_in (at s (array ts ks)) l k f h m c = all_in ts l k f.1 h m c
     trees_in (at s (hash ps)) l k f h m c = pairs_in ps l k f h m c
@@ -148,7 +148,7 @@ module _ (rows : List IndexRow) (index : AreIndexRows rows) where
     ensure_in (at s f) l g h m c = absurd g
 
     -- those in a body
-    pub body_in : (t : Tree) (l : Where) → IsBody t → IsHoused l.sight t → H l → C (sequences l t) → AllSound (sequences l t)
+    body_in : (t : Tree) (l : Where) → IsBody t → IsHoused l.sight t → H l → C (sequences l t) → AllSound (sequences l t)
     body_in (at s (body ps t)) l f h m c = both_sound (params_sequences l ps) (sequences l t) c (λ d. params_in ps l f.1.0 h.0 m d) (λ d. trees_in t l false f.1.1 h.1 m d)
     body_in (at s f) l g h m c = absurd g
 

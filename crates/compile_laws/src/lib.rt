@@ -5,3 +5,4 @@ pub mod alike;
 pub mod bodies;
 pub mod found;
 pub mod sound;
+pub mod soundness;
