@@ -30,3 +30,7 @@ pub mod SoundBodies
 pub mod SoundTrees
 pub mod Units
 pub mod SoundPrograms
+pub mod Inside
+pub mod NestedRise
+pub mod NumberedSequences
+pub mod TextsRise

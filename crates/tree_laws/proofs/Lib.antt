@@ -14,3 +14,8 @@ pub mod Forming
 pub mod FormedParts
 pub mod FormedStatements
 pub mod TextsFormed
+pub mod Ascending
+pub mod Spans
+pub mod SpanParts
+pub mod SpanStatements
+pub mod Nests

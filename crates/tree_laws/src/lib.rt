@@ -12,6 +12,7 @@ ghost use Rattle.ruby_meaning.specs.Sequences.{places, sequence_number};
 ghost use Rattle.tree_laws.specs.Numbering.{Has};
 ghost use Rattle.tree_laws.specs.Formed.{IsFormed, IsBody};
 ghost use Rattle.ruby_meaning.specs.Loads.{file_body};
+ghost use Rattle.tree_laws.specs.Nesting.{Nested};
 ghost use Rattle.ruby_meaning.specs.Levels.{file_sight, IsHoused};
 
 /// No two sequences of a text's tree begin at one place, so that their numbers tell them apart; and
@@ -43,4 +44,11 @@ pub fn sequence_numbers_rise()
 pub fn trees_are_formed()
     ensures formed { (source : Bytes) (t : Tree) → Reads source t → IsFormed false t }
     ensures file { (source : Bytes) (t : Tree) → Reads source t → IsBody (file_body t) }
+{}
+
+/// Each body and each block of a text's tree begins a sequence, and each sequence within another one
+/// begins behind it. A rescue or ensure part begins behind all that begins in what it protects. So
+/// the number of a sequence is greater than those of the sequences around it.
+pub fn sequences_nest()
+    ensures nested { (source : Bytes) (t : Tree) → Reads source t → Nested t }
 {}
