@@ -1,11 +1,13 @@
 -- The sequences of a program are sound, and its unit can be dumped.
-use Rattle.std.proofs.Common.{◌≡◌, ℕ, zero, suc, ◌+◌, ◌≤◌, ◌<◌, Bool, true, false, nat_eq, refl, sym, subst, ap, ◌∙◌, arith, List, [], ◌∷◌, length, get_or, Some, All}
+use Rattle.std.proofs.Common.{◌≡◌, ℕ, zero, suc, ◌+◌, ◌≤◌, ◌<◌, Bool, true, false, nat_eq, refl, sym, subst, ap, ◌∙◌, arith, List, [], ◌∷◌, length, get_or, map, Some}
 use Rattle.std.specs.Prelude.{slice_get, unwrap_or}
 use Rattle.std.specs.List.{AllByRecursion, IsDistinct}
 use Rattle.std.proofs.lemmas.List.Elements.{All-from_recursion}
 use Rattle.std.proofs.lemmas.Option.{same_Some, slice_get_past, slice_get_within, unwrap_or-slice_get, get_or_from_slice_get}
+use Rattle.ruby_lexer.specs.Bytes.{Bytes as Source}
 use Rattle.ruby_tree.specs.Names.{Bytes}
 use Rattle.ruby_tree.specs.Tree.{Tree}
+use Rattle.ruby_tree.specs.Reading.{Reads}
 use Rattle.iseq_types.specs.declared.sequences.IndexRow.{IndexRow}
 use Rattle.iseq_types.specs.declared.sequences.SeqKind.TheVariants as kinds
 use Rattle.iseq_types.specs.declared.sequences.Sequence.{Sequence}
@@ -19,6 +21,9 @@ use Rattle.ruby_meaning.specs.Sequences.{places}
 use Rattle.ruby_meaning.specs.Levels.{file_sight, IsHoused}
 use Rattle.compile_table.specs.Sequences.{Compiled, in_file, sequences, by_places, compiled_file, sequences_of, index_row, unit_of, sequence_at}
 use Rattle.tree_laws.specs.Formed.{IsFormed, IsBody}
+use Rattle.tree_laws.proofs.Apart.{places_apart}
+use Rattle.tree_laws.proofs.LocalsHeld.{housed}
+use Rattle.tree_laws.proofs.TextsFormed.{text_formed}
 use Rattle.compile_laws.specs.Found.{IsOfProgram}
 use Rattle.compile_laws.proofs.ByPlaces.{all_of, by_all}
 use Rattle.compile_laws.proofs.FoundPrograms.{known, file_known, numbered}
@@ -28,6 +33,7 @@ use Rattle.compile_laws.proofs.FineTrees.{Children}
 use Rattle.compile_laws.proofs.HomedLocals.{Homed, file_locals}
 use Rattle.compile_laws.proofs.SoundBodies.{HasRow, IsHomed, locals_at, sound_body}
 use Rattle.compile_laws.proofs.SoundTrees.{SoundAt, trees_in}
+use Rattle.compile_laws.proofs.TextsRise.{index_is}
 
 module _ (path : Bytes) (t : Tree) (fm : IsFormed false t) (hs : IsHoused (file_sight t) t) (apart : IsDistinct nat_eq (places t)) (index : AreIndexRows (unit_of path t).rows) where
   abbrev rows : List IndexRow
@@ -88,3 +94,19 @@ module _ (path : Bytes) (t : Tree) (fm : IsFormed false t) (hs : IsHoused (file_
 
   pub can_be_dumped : CanBeDumped (unit_of path t)
   can_be_dumped = sound_dumped (unit_of path t) index (bodies_counted path t ∙ sym (rows_counted path t)) bodies_sound
+
+-- those of a text
+module _ (path : Bytes) (source : Source) (t : Tree) (R : Reads source t) where
+  pub text_rows : AreIndexRows (map index_row (sequences_of path t))
+  unfolding unit_of
+  text_rows = index_is path source t R
+
+  pub text_sound : (n : ℕ) (c : Compiled) → slice_get (sequences_of path t) n ≡ Some c → IsSound c.body (map index_row (sequences_of path t)) n
+  unfolding unit_of
+  text_sound = sound_at path t (text_formed source t R) (housed source t R) (places_apart source t R) (index_is path source t R)
+
+  pub text_bodies : HasSoundBodies (unit_of path t)
+  text_bodies = bodies_sound path t (text_formed source t R) (housed source t R) (places_apart source t R) (index_is path source t R)
+
+  pub text_dumped : CanBeDumped (unit_of path t)
+  text_dumped = can_be_dumped path t (text_formed source t R) (housed source t R) (places_apart source t R) (index_is path source t R)
