@@ -1,11 +1,11 @@
 -- Code whose instructions have operands that are right, and whose rows name the sequences that they start.
-use Rattle.std.proofs.Common.{◌≡◌, ◌≢◌, ℕ, zero, suc, ◌+◌, ◌-◌, ◌*◌, ◌%◌, ◌≤◌, ◌<◌, ◌⊎◌, inl, inr, Bool, true, false, cond, refl, sym, subst, ap, ◌∙◌, arith, List, [], ◌∷◌, ◌++◌, length, Option, Some, None, All}
+use Rattle.std.proofs.Common.{◌≡◌, ◌≢◌, ℕ, zero, suc, ◌+◌, ◌≤◌, ◌<◌, ◌⊎◌, inl, inr, Bool, true, false, refl, subst, arith, List, [], ◌∷◌, Option, Some, None, All}
 use Rattle.std.specs.Prelude.{⊤, codes}
 use Rattle.std.proofs.lemmas.List.Elements.{All-weaker, All-nil}
 use Rattle.ruby_tree.specs.Names.{Bytes}
 use Rattle.ruby_tree.specs.Tree.{Goal, to_local, to_instance, to_global, to_constant, Tree, Trees, no_more, more, Other, without, with}
 use Rattle.iseq_types.specs.declared.instructions.Instr.{Instr}
-use Rattle.iseq_types.specs.declared.instructions.Instr.TheVariants.{Pop, Dup, TopN, SetN, AdjustStack, PutNil, Send, InvokeSuper, Jump, Throw, Leave}
+use Rattle.iseq_types.specs.declared.instructions.Instr.TheVariants.{Send, InvokeSuper, Throw, Leave}
 use Rattle.iseq_types.specs.declared.sequences.CatchKind.{CatchKind}
 use Rattle.iseq_types.specs.declared.sequences.CatchKind.TheVariants as catches
 use Rattle.iseq_types.specs.declared.sequences.IndexRow.{IndexRow}
@@ -14,10 +14,8 @@ use Rattle.iseq_types.specs.declared.sequences.SeqKind.TheVariants as kinds
 use Rattle.iseq_types.specs.Index.{IsChild, HasLocal}
 use Rattle.iseq_types.specs.Sound.{FindsLocal, NamesChild, InstrNamesChild, SeqIsRight, SpreadsBelow, HasKnownOperands}
 use Rattle.ruby_meaning.specs.Levels.{Held, GoalHeld, GoalsHeld, NameHeld, slot_of, level_of}
-use Rattle.ruby_meaning.specs.Locals.{place_of}
-use Rattle.ruby_meaning.specs.Sequences.{sequence_number}
-use Rattle.code_meaning.specs.Code.{Shape, done, op, ahead, behind, deep, part, held, size}
-use Rattle.compile_table.specs.Shapes.{Where, number_of, count, set_goal, sets, gets, named, set_local, get_local, plain_send, with_literal, receiver_flag, value_flag, bare_flag, self_flag, set_by_send, or_set, attribute_read, index_read, turns, branch_by}
+use Rattle.code_meaning.specs.Code.{Shape, done, op, ahead, behind, deep, part, held}
+use Rattle.compile_table.specs.Shapes.{Where, number_of, count, set_goal, sets, named, plain_send, with_literal, value_flag, bare_flag, set_by_send, or_set, attribute_read, index_read, turns, branch_by}
 use Rattle.tree_laws.specs.Formed.{HasTreeAt, AreSpread}
 
 -- Within a part that an ensure row holds or not.

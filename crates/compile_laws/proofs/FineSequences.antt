@@ -1,6 +1,6 @@
 -- What the fine code of a sequence shows of its lines, its rows and its throws.
-use Rattle.std.proofs.Common.{◌≡◌, ◌≢◌, ℕ, zero, suc, ◌+◌, ◌-◌, ◌≤◌, ◌<◌, ◌⊎◌, inl, inr, Bool, true, false, not, ◌&&◌, refl, sym, subst, ap, ◌∙◌, arith, List, [], ◌∷◌, ◌++◌, length, Some, All}
-use Rattle.std.specs.Prelude.{⊤, nat_lt, slice_get}
+use Rattle.std.proofs.Common.{◌≡◌, ◌≢◌, ℕ, zero, suc, ◌+◌, ◌-◌, ◌≤◌, ◌<◌, ◌⊎◌, inl, inr, Bool, true, false, not, ◌&&◌, refl, sym, subst, ap, ◌∙◌, arith, List, [], ◌∷◌, ◌++◌, Some}
+use Rattle.std.specs.Prelude.{nat_lt, slice_get}
 use Rattle.std.specs.List.{Any, AllByRecursion}
 use Rattle.std.proofs.lemmas.Bool.{ltb-true, ltb-false}
 use Rattle.iseq_types.specs.declared.instructions.Instr.{Instr}
@@ -14,8 +14,8 @@ use Rattle.iseq_types.specs.declared.sequences.SeqKind.{SeqKind}
 use Rattle.iseq_types.specs.declared.sequences.SeqKind.TheVariants as kinds
 use Rattle.iseq_types.specs.declared.sequences.Sequence.{Sequence}
 use Rattle.iseq_types.specs.Catch.{Holds}
-use Rattle.iseq_types.specs.Sound.{EachInstr, EachThrow, FindsLocal, NamesChildren, InstrNamesChild, SeqIsRight, SpreadsBelow, HasKnownOperands, ThrowsRight}
-use Rattle.code_meaning.specs.Code.{at_line, row_over, holds, keep, rows_at, Shape, done, op, ahead, behind, deep, part, held, size, finish, lines_of, rows_of, Placed}
+use Rattle.iseq_types.specs.Sound.{EachInstr, EachThrow, FindsLocal, NamesChildren, InstrNamesChild, SeqIsRight, SpreadsBelow, HasKnownOperands}
+use Rattle.code_meaning.specs.Code.{at_line, row_over, holds, keep, rows_at, Shape, done, op, ahead, behind, deep, part, held, finish, lines_of, rows_of, Placed}
 use Rattle.code_meaning.proofs.Sizes.{finish_size}
 use Rattle.code_meaning.proofs.Placing.{placed}
 use Rattle.compile_laws.proofs.ShapeSound.{some_is, split_at, same_or_less, every_join}

@@ -1,22 +1,20 @@
 -- The code of each tree has operands that are right, where its locals are held and its sequences are known.
-use Rattle.std.proofs.Common.{◌≡◌, ◌≢◌, ℕ, zero, suc, ◌+◌, ◌-◌, ◌*◌, ◌%◌, ◌≤◌, ◌<◌, ◌⊎◌, inl, inr, Bool, true, false, cond, refl, sym, subst, ap, ◌∙◌, arith, List, [], ◌∷◌, ◌++◌, length, Option, Some, None, All}
+use Rattle.std.proofs.Common.{◌≡◌, ℕ, suc, ◌+◌, ◌*◌, ◌%◌, ◌≤◌, ◌<◌, ◌⊎◌, inl, inr, Bool, true, false, refl, sym, subst, ◌∙◌, arith, List, [], ◌∷◌, ◌++◌, length, Some}
 use Rattle.std.specs.Prelude.{⊤, codes, slice_get}
 use Rattle.std.specs.List.{AllByRecursion}
 use Rattle.std.proofs.lemmas.List.Elements.{All-nil}
 use Rattle.ruby_tree.specs.Names.{Bytes}
-use Rattle.ruby_tree.specs.Tree.{SourcePosition, Goal, to_local, to_instance, to_global, to_constant, Tree, at, Form, nil_value, true_value, false_value, integer, symbol, text, self_value, file_name, folder_name, line_number, local, instance, global, joined, array, hash, range, constant_path, assign, assign_all, assign_attribute, assign_index, operate_attribute, or_attribute, and_attribute, operate_index, or_index, and_index, send, safe_send, yield, super, bare_super, bare_raise, statements, both, either, negated, if_else, while_loop, case_of, case_tests, return_with, break_with, next_with, retry, rescue, ensure, rescue_sequence, ensure_sequence, method, class, module_named, body, Trees, no_more, more, Other, without, with, Pairs, no_pair, pair, Pieces, no_piece, plain_piece, code_piece, Whens, no_when, when, Rescues, no_clause, clause, Params, no_param, required, optional, rest_param, block_param}
+use Rattle.ruby_tree.specs.Tree.{Tree, at, nil_value, true_value, false_value, integer, symbol, text, self_value, file_name, folder_name, line_number, local, instance, global, joined, array, hash, range, constant_path, assign, assign_all, assign_attribute, assign_index, operate_attribute, or_attribute, and_attribute, operate_index, or_index, and_index, send, safe_send, yield, super, bare_super, bare_raise, statements, both, either, negated, if_else, while_loop, case_of, case_tests, return_with, break_with, next_with, retry, rescue, ensure, rescue_sequence, ensure_sequence, method, class, module_named, body, Trees, no_more, more, Other, without, with, Pairs, no_pair, pair, Pieces, no_piece, plain_piece, code_piece, Whens, no_when, when, Rescues, no_clause, clause, Params, no_param, required, optional, rest_param, block_param}
 use Rattle.iseq_types.specs.declared.instructions.Instr.{Instr}
-use Rattle.iseq_types.specs.declared.instructions.Instr.TheVariants.{Pop, Dup, TopN, PutNil, Send, InvokeSuper, Throw, Leave, BranchIf, BranchUnless, NewRange, DefineMethod, DefineClass}
-use Rattle.iseq_types.specs.declared.sequences.CatchKind.TheVariants as catches
+use Rattle.iseq_types.specs.declared.instructions.Instr.TheVariants.{PutNil, Send, InvokeSuper, Throw, Leave, BranchIf, BranchUnless, NewRange, DefineMethod, DefineClass}
 use Rattle.iseq_types.specs.declared.sequences.IndexRow.{IndexRow}
 use Rattle.iseq_types.specs.declared.sequences.SeqKind.{SeqKind}
 use Rattle.iseq_types.specs.declared.sequences.SeqKind.TheVariants as kinds
 use Rattle.iseq_types.specs.Index.{IsChild}
-use Rattle.ruby_meaning.specs.Levels.{AllHeld, NameHeld, IsHoused, BlockHoused, TreesHoused, OtherHoused, PairsHoused, PiecesHoused, WhensHoused, ClausesHoused, ParamsHoused}
-use Rattle.ruby_meaning.specs.Locals.{params_of, names_of_params, place_of}
-use Rattle.ruby_meaning.specs.Sequences.{sequence_number}
-use Rattle.code_meaning.specs.Code.{Shape, done, op, ahead, part, held, size}
-use Rattle.compile_table.specs.Shapes.{Where, looped, plain_send, set_by_send, number_of, count, count_pairs, get_local, set_local, gets, named, self_flag, receiver_flag, value_flag, bare_flag, throw_by, with_literal, path_start, open_end, on_self, own, start, line_at, in_rescue, in_ensure, shape, params_shape, all_shape, rest_shape, args_shape, pairs_shape, pieces_shape, path_shape, receiver_shape, value_shape, other_shape, last_shape, values_shape, patterns_shape, pattern_shape, cases_shape, tests_shape, test_shape, hits_shape, clauses_shape, clause_shape, classes_shape, bodies_shape}
+use Rattle.ruby_meaning.specs.Levels.{AllHeld, IsHoused, TreesHoused, OtherHoused, PairsHoused, PiecesHoused, WhensHoused, ClausesHoused, ParamsHoused}
+use Rattle.ruby_meaning.specs.Locals.{params_of, names_of_params}
+use Rattle.code_meaning.specs.Code.{Shape, done, op, ahead, part, size}
+use Rattle.compile_table.specs.Shapes.{Where, looped, plain_send, set_by_send, number_of, count, count_pairs, gets, self_flag, receiver_flag, value_flag, bare_flag, throw_by, with_literal, open_end, on_self, own, start, line_at, in_rescue, in_ensure, shape, params_shape, all_shape, rest_shape, args_shape, pairs_shape, pieces_shape, path_shape, receiver_shape, value_shape, other_shape, last_shape, values_shape, patterns_shape, pattern_shape, cases_shape, tests_shape, test_shape, hits_shape, clauses_shape, clause_shape, classes_shape, bodies_shape}
 use Rattle.compile_table.specs.Sequences.{Compiled, compiled_body, compiled_part, in_body, in_block, index_row, sequences, block_sequences, trees_sequences, other_sequences, pairs_sequences, pieces_sequences, whens_sequences, clauses_sequences, params_sequences}
 use Rattle.tree_laws.specs.Formed.{IsFormed, IsBody, IsRescuePart, IsEnsurePart, TreesFormed, OtherFormed, PairsFormed, PiecesFormed, WhensFormed, ClausesFormed, ParamsFormed}
 use Rattle.compile_laws.proofs.TreeFits.{self_bit, receiver_bit}

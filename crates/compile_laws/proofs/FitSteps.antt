@@ -1,12 +1,11 @@
 -- Instructions, jumps and parts before code that fits.
-use Rattle.std.proofs.Common.{◌≡◌, ℕ, zero, suc, ◌+◌, ◌-◌, ◌≤◌, ◌<◌, ◌⊎◌, inl, inr, Bool, true, false, cond, refl, sym, subst, ap, ◌∙◌, arith, Option, Some, None}
+use Rattle.std.proofs.Common.{◌≡◌, ℕ, suc, ◌+◌, ◌≤◌, ◌<◌, false, cond, refl, sym, subst, ap, ◌∙◌, arith, None}
 use Rattle.std.specs.Prelude.{IsTrue}
 use Rattle.iseq_types.specs.declared.instructions.Instr.{Instr}
 use Rattle.iseq_types.specs.declared.sequences.CatchKind.{CatchKind}
-use Rattle.iseq_types.specs.declared.sequences.CatchKind.TheVariants as catches
-use Rattle.iseq_types.specs.Instructions.{needs_of, takes_of, leaves_of, depth_after, target_of, goes_on}
+use Rattle.iseq_types.specs.Instructions.{needs_of, takes_of, depth_after, target_of, goes_on}
 use Rattle.code_meaning.specs.Code.{Shape, done, op, ahead, part, held, size}
-use Rattle.compile_laws.proofs.ShapeDepths.{past, begins, look, look_on, look_over, look_part, look_held, look_end, Leaps, Edges, farther, step, within_part, GoesOn, Fits, Fit}
+use Rattle.compile_laws.proofs.ShapeDepths.{past, begins, look, look_on, look_over, look_part, look_held, look_end, Leaps, Edges, farther, Fits, Fit}
 
 pub finished : {x h c : ℕ} → c ≡ h + 1 → Fit x h c done
 finished e = record { fits = λ b n o. e }

@@ -1,5 +1,5 @@
 -- Locals that are held stand in the index, and parameters are locals.
-use Rattle.std.proofs.Common.{◌≡◌, ℕ, zero, suc, ◌+◌, ◌-◌, ◌≤◌, ◌<◌, Bool, true, false, cond, ◌||◌, refl, sym, subst, ap, ◌∙◌, arith, List, [], ◌∷◌, ◌++◌, length, Some, length-append}
+use Rattle.std.proofs.Common.{◌≡◌, ℕ, suc, ◌+◌, ◌-◌, ◌≤◌, ◌<◌, Bool, true, false, cond, ◌||◌, refl, ap, arith, List, [], ◌∷◌, ◌++◌, length, Some, length-append}
 use Rattle.std.specs.Prelude.{⊤, slice_get, ◌^◌}
 use Rattle.ruby_lexer.specs.Bytes.{same, is_in}
 use Rattle.ruby_tree.specs.Names.{Bytes}

@@ -1,17 +1,16 @@
 -- Where bodies begin, and how sequences end.
-use Rattle.std.proofs.Common.{◌≡◌, ℕ, zero, suc, ◌+◌, ◌-◌, ◌≤◌, ◌<◌, Bool, true, false, cond, refl, sym, subst, ap, ◌∙◌, arith, List, [], ◌∷◌, ◌++◌, length, Option, Some, None, get_or}
-use Rattle.std.specs.Prelude.{⊤, IsTrue, slice_get, codes}
+use Rattle.std.proofs.Common.{◌≡◌, ℕ, suc, ◌+◌, ◌-◌, ◌≤◌, ◌<◌, Bool, true, false, cond, refl, subst, arith, List, [], ◌∷◌, ◌++◌, length, Option, Some, None, get_or}
+use Rattle.std.specs.Prelude.{IsTrue, slice_get}
 use Rattle.std.specs.List.{AllByRecursion}
 use Rattle.std.proofs.lemmas.Option.{slice_get-get_or}
 use Rattle.ruby_tree.specs.Names.{Bytes}
-use Rattle.ruby_tree.specs.Tree.{Tree, at, Form, rescue_sequence, ensure_sequence, body, Trees, no_more, more, Rescues, no_clause, clause, Params, no_param, required, optional, rest_param, block_param}
+use Rattle.ruby_tree.specs.Tree.{Tree, at, rescue_sequence, ensure_sequence, body, Trees, no_more, more, Rescues, no_clause, clause, Params, no_param, required, optional, rest_param, block_param}
 use Rattle.iseq_types.specs.declared.instructions.Instr.{Instr}
 use Rattle.iseq_types.specs.declared.instructions.Instr.TheVariants.{Throw, Leave}
-use Rattle.iseq_types.specs.declared.sequences.CatchRow.{CatchRow}
 use Rattle.iseq_types.specs.declared.sequences.Line.{Line}
 use Rattle.iseq_types.specs.Instructions.{is_ending}
 use Rattle.iseq_types.specs.Depths.{DepthAt}
-use Rattle.code_meaning.specs.Code.{at_line, Shape, done, op, ahead, part, size, finish, lines_of, rows_of}
+use Rattle.code_meaning.specs.Code.{at_line, Shape, done, op, ahead, part, size, finish, lines_of}
 use Rattle.code_meaning.proofs.Sizes.{finish_size}
 use Rattle.compile_table.specs.Shapes.{Where, own, named, set_local, shape, params_shape, clauses_shape, clause_shape, classes_shape, bodies_shape}
 use Rattle.compile_table.specs.Sequences.{has_optional, entries_from, entries_of}

@@ -1,6 +1,6 @@
 -- A sequence whose code fits has depths at all its places, and they are right.
-use Rattle.std.proofs.Common.{◌≡◌, ℕ, zero, suc, ◌+◌, ◌-◌, ◌≤◌, ◌<◌, Bool, true, refl, sym, subst, ap, ◌∙◌, arith, List, [], ◌∷◌, ◌++◌, length, Option, Some, None, All, length-append, get_or}
-use Rattle.std.specs.Prelude.{⊤, IsTrue, IfSome, slice_get}
+use Rattle.std.proofs.Common.{◌≡◌, ℕ, zero, suc, ◌+◌, ◌≤◌, ◌<◌, refl, sym, subst, ap, ◌∙◌, arith, List, [], ◌∷◌, ◌++◌, length, Option, Some, None, All, length-append, get_or}
+use Rattle.std.specs.Prelude.{⊤, IfSome, slice_get}
 use Rattle.std.specs.List.{AllByRecursion}
 use Rattle.std.proofs.lemmas.Option.{slice_get-get_or, slice_get_past}
 use Rattle.std.proofs.lemmas.List.Elements.{All-from_recursion, All-from_get_or}
@@ -9,15 +9,15 @@ use Rattle.iseq_types.specs.declared.sequences.CatchRow.{CatchRow}
 use Rattle.iseq_types.specs.declared.sequences.Line.{Line}
 use Rattle.iseq_types.specs.declared.sequences.SeqKind.{SeqKind}
 use Rattle.iseq_types.specs.declared.sequences.Sequence.{Sequence}
-use Rattle.iseq_types.specs.Instructions.{is_ending, takes_of, target_of}
+use Rattle.iseq_types.specs.Instructions.{target_of}
 use Rattle.iseq_types.specs.Depths.{DepthAt, HasRow, CoversWays, KeepsFloor}
-use Rattle.iseq_types.specs.Sound.{EachInstr, IsInside, IsOrdered}
+use Rattle.iseq_types.specs.Sound.{IsInside, IsOrdered}
 use Rattle.iseq_types.specs.Ways.{start_depth}
 use Rattle.code_meaning.specs.Code.{at_line, Shape, done, op, ahead, behind, deep, part, held, size, finish, lines_of, rows_of}
 use Rattle.code_meaning.proofs.Sizes.{finish_size}
 use Rattle.code_meaning.proofs.Placing.{placed}
 use Rattle.compile_laws.proofs.ShapeDepths.{past, depths_of, depths_length, Edges, Fit, marked}
-use Rattle.compile_laws.proofs.ShapeSound.{some_is, none_is, split_at, Span, Led, RowRight, Right, backs_none, outers_none, at_first, right}
+use Rattle.compile_laws.proofs.ShapeSound.{none_is, split_at, Led, RowRight, Right, backs_none, outers_none, at_first, right}
 use Rattle.compile_laws.proofs.FitSteps.{fit_size}
 
 pub lines_size : (s : Shape) (h p : ℕ) → length (lines_of h p s) ≡ size s

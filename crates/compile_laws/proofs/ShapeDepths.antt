@@ -1,14 +1,13 @@
 -- The depths at the places of code, from its shape, and what makes them right.
-use Rattle.std.proofs.Common.{◌≡◌, ℕ, zero, suc, ◌+◌, ◌-◌, ◌≤◌, ◌<◌, ◌⊎◌, inl, inr, Bool, true, false, cond, refl, sym, subst, ap, ◌∙◌, arith, List, [], ◌∷◌, ◌++◌, length, Option, Some, None, append_assoc, length-append}
+use Rattle.std.proofs.Common.{◌≡◌, ℕ, zero, suc, ◌+◌, ◌-◌, ◌≤◌, ◌<◌, ◌⊎◌, cond, refl, sym, subst, ap, ◌∙◌, arith, List, [], ◌∷◌, ◌++◌, length, Option, Some, None, append_assoc, length-append}
 use Rattle.std.specs.Prelude.{⊤, slice_get, nat_lt}
 use Rattle.std.proofs.Math.Seq.{get_or-append_seam}
 use Rattle.std.proofs.lemmas.Option.{slice_get-get_or}
-use Rattle.std.proofs.lemmas.Bool.{lt-ltb, le-ltb}
+use Rattle.std.proofs.lemmas.Bool.{le-ltb}
 use Rattle.iseq_types.specs.declared.instructions.Instr.{Instr}
 use Rattle.iseq_types.specs.declared.instructions.Instr.TheVariants.{Pop, SetN, Jump, BranchIf, BranchUnless, BranchNil}
 use Rattle.iseq_types.specs.declared.sequences.CatchKind.{CatchKind}
 use Rattle.iseq_types.specs.declared.sequences.CatchKind.TheVariants as catches
-use Rattle.iseq_types.specs.declared.sequences.Line.{Line}
 use Rattle.iseq_types.specs.Instructions.{needs_of, takes_of, leaves_of, depth_after, target_of, goes_on}
 use Rattle.iseq_types.specs.Depths.{DepthAt}
 use Rattle.code_meaning.specs.Code.{Shape, done, op, ahead, behind, deep, part, held, size, finish}

@@ -1,31 +1,28 @@
 -- Each sequence whose tree is formed, whose locals are held and whose children are known is sound.
-use Rattle.std.proofs.Common.{◌≡◌, ◌≢◌, ℕ, zero, suc, ◌+◌, ◌-◌, ◌≤◌, ◌<◌, ◌⊎◌, inl, inr, Bool, true, false, refl, sym, subst, ap, ◌∙◌, arith, List, [], ◌∷◌, ◌++◌, length, Some}
-use Rattle.std.specs.Prelude.{⊤, slice_get, option_map, unwrap_or}
+use Rattle.std.proofs.Common.{◌≡◌, ◌≢◌, ℕ, inl, Bool, true, false, refl, sym, ap, ◌∙◌, arith, List, Some}
+use Rattle.std.specs.Prelude.{slice_get, option_map, unwrap_or}
 use Rattle.ruby_tree.specs.Names.{Bytes}
-use Rattle.ruby_tree.specs.Tree.{Tree, at, Form, rescue_sequence, ensure_sequence, body}
+use Rattle.ruby_tree.specs.Tree.{Tree, at, body}
 use Rattle.iseq_types.specs.declared.sequences.IndexRow.{IndexRow}
 use Rattle.iseq_types.specs.declared.sequences.SeqKind.{SeqKind}
 use Rattle.iseq_types.specs.declared.sequences.SeqKind.TheVariants as kinds
 use Rattle.iseq_types.specs.declared.sequences.Sequence.{Sequence}
 use Rattle.iseq_types.specs.declared.instructions.Instr.TheVariants.{Leave}
-use Rattle.iseq_types.specs.Index.{AreIndexRows, HasLocal, homes_of}
-use Rattle.iseq_types.specs.Sound.{kind_of, locals_of, parameters_of, CountsLocals, EndsRight, EachInstr, IsSound}
+use Rattle.iseq_types.specs.Index.{AreIndexRows, homes_of}
+use Rattle.iseq_types.specs.Sound.{kind_of, locals_of, CountsLocals, EndsRight, IsSound}
 use Rattle.iseq_types.specs.Ways.{start_depth}
 use Rattle.iseq_types.proofs.Homes.{local_list}
 use Rattle.iseq_types.proofs.Keeping.{keeps_by}
 use Rattle.iseq_types.proofs.Taking.{code_ends, sound_from}
-use Rattle.ruby_meaning.specs.Levels.{IsHoused, Held, slot_of, level_of}
-use Rattle.ruby_meaning.specs.Locals.{params_of, names_of_params}
-use Rattle.ruby_meaning.specs.Locals as meaning
-use Rattle.code_meaning.specs.Code.{Shape, done, op, part, size, lines_of, rows_of}
-use Rattle.compile_table.specs.Shapes.{Where, shape, params_shape}
-use Rattle.compile_table.specs.Sequences.{Compiled, compiled_body, compiled_part, body_sequence, part_sequence, index_row, sequences, depth_in}
+use Rattle.ruby_meaning.specs.Levels.{IsHoused, slot_of, level_of}
+use Rattle.code_meaning.specs.Code.{Shape, done, op, part, lines_of}
+use Rattle.compile_table.specs.Shapes.{Where, shape}
+use Rattle.compile_table.specs.Sequences.{Compiled, compiled_body, compiled_part, body_sequence, part_sequence, index_row, sequences}
 use Rattle.tree_laws.specs.Formed.{IsBody, IsRescuePart, IsEnsurePart}
-use Rattle.compile_laws.proofs.ShapeDepths.{Fit}
 use Rattle.compile_laws.proofs.TreeFits.{body_fits, rescue_part_fits, ensure_part_fits}
 use Rattle.compile_laws.proofs.SequenceSound.{with_code, HasDepths, has_depths}
 use Rattle.compile_laws.proofs.SequenceEnds.{HasLast, entries_right, body_ends, rescue_part_ends, ensure_part_ends}
-use Rattle.compile_laws.proofs.FineCode.{MayPend, Fine, Stands}
+use Rattle.compile_laws.proofs.FineCode.{MayPend, Stands}
 use Rattle.compile_laws.proofs.FineTrees.{Children, body_fine, rescue_part_fine, ensure_part_fine}
 use Rattle.compile_laws.proofs.FineSequences.{HasOperands, has_operands}
 use Rattle.compile_laws.proofs.HomedLocals.{Homed, held_at, params_counted, params_are_locals}

@@ -1,5 +1,5 @@
 -- The sequences of a program are sound, and its unit can be dumped.
-use Rattle.std.proofs.Common.{◌≡◌, ℕ, zero, suc, ◌+◌, ◌≤◌, ◌<◌, Bool, true, false, nat_eq, refl, sym, subst, ap, ◌∙◌, arith, List, [], ◌∷◌, length, get_or, map, Some}
+use Rattle.std.proofs.Common.{◌≡◌, ℕ, ◌≤◌, ◌<◌, false, nat_eq, refl, sym, subst, ap, ◌∙◌, arith, List, [], length, get_or, map, Some}
 use Rattle.std.specs.Prelude.{slice_get, unwrap_or}
 use Rattle.std.specs.List.{AllByRecursion, IsDistinct}
 use Rattle.std.proofs.lemmas.List.Elements.{All-from_recursion}
@@ -10,7 +10,6 @@ use Rattle.ruby_tree.specs.Tree.{Tree}
 use Rattle.ruby_tree.specs.Reading.{Reads}
 use Rattle.iseq_types.specs.declared.sequences.IndexRow.{IndexRow}
 use Rattle.iseq_types.specs.declared.sequences.SeqKind.TheVariants as kinds
-use Rattle.iseq_types.specs.declared.sequences.Sequence.{Sequence}
 use Rattle.iseq_types.specs.Index.{AreIndexRows}
 use Rattle.iseq_types.specs.Sound.{IsSound}
 use Rattle.iseq_types.proofs.Homes.{homes_file}
@@ -19,7 +18,7 @@ use Rattle.iseq_dump.proofs.Placed.{sound_dumped}
 use Rattle.ruby_meaning.specs.Loads.{file_body}
 use Rattle.ruby_meaning.specs.Sequences.{places}
 use Rattle.ruby_meaning.specs.Levels.{file_sight, IsHoused}
-use Rattle.compile_table.specs.Sequences.{Compiled, in_file, sequences, by_places, compiled_file, sequences_of, index_row, unit_of, sequence_at}
+use Rattle.compile_table.specs.Sequences.{Compiled, in_file, sequences, compiled_file, sequences_of, index_row, unit_of, sequence_at}
 use Rattle.tree_laws.specs.Formed.{IsFormed, IsBody}
 use Rattle.tree_laws.proofs.Apart.{places_apart}
 use Rattle.tree_laws.proofs.LocalsHeld.{housed}
