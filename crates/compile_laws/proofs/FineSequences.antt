@@ -3,6 +3,8 @@ use Rattle.std.proofs.Common.{◌≡◌, ◌≢◌, ℕ, zero, suc, ◌+◌, ◌
 use Rattle.std.specs.Prelude.{nat_lt, slice_get}
 use Rattle.std.specs.List.{Any, AllByRecursion}
 use Rattle.std.proofs.lemmas.Bool.{ltb-true, ltb-false}
+use Rattle.std.proofs.lemmas.Option.{same_Some, slice_get_within}
+use Rattle.std.proofs.ByRecursion.{All-append}
 use Rattle.iseq_types.specs.declared.instructions.Instr.{Instr}
 use Rattle.iseq_types.specs.declared.instructions.Instr.TheVariants.{Throw, Leave}
 use Rattle.iseq_types.specs.declared.sequences.CatchKind.{CatchKind}
@@ -18,8 +20,8 @@ use Rattle.iseq_types.specs.Sound.{EachInstr, EachThrow, FindsLocal, NamesChildr
 use Rattle.code_meaning.specs.Code.{at_line, row_over, holds, keep, rows_at, Shape, done, op, ahead, behind, deep, part, held, finish, lines_of, rows_of, Placed}
 use Rattle.code_meaning.proofs.Sizes.{finish_size}
 use Rattle.code_meaning.proofs.Placing.{placed}
-use Rattle.compile_laws.proofs.ShapeSound.{some_is, split_at, same_or_less, every_join}
-use Rattle.compile_laws.proofs.SequenceSound.{lines_size, within_list, all_by, with_code}
+use Rattle.compile_laws.proofs.ShapeSound.{split_at}
+use Rattle.compile_laws.proofs.SequenceSound.{lines_size, all_by, with_code}
 use Rattle.compile_laws.proofs.FineCode.{MayPend, ThrowsWell, IsFine, ensured, AreFine, Fine}
 
 -- ---- the rows that hold a place
@@ -56,19 +58,15 @@ module _ (rows : List IndexRow) (id : ℕ) (kind : SeqKind) where
   abbrev FineLine : Line → Type 0
   FineLine line = (b : Bool) × IsFine rows id kind b line.instr
 
-  lines_join : (xs ys : List Line) → AllByRecursion FineLine xs → AllByRecursion FineLine ys → AllByRecursion FineLine (xs ++ ys)
-  lines_join [] ys a b = b
-  lines_join (x ∷ xs) ys a b = (a.0, lines_join xs ys a.1 b)
-
   lines_fine : (s : Shape) (b : Bool) (h p : ℕ) → AreFine rows id kind b s → AllByRecursion FineLine (lines_of h p s)
   lines_fine done b h p f = tt
   lines_fine (op l i s) b h p f = ((b, f.0), lines_fine s b h (p + 1) f.1)
   lines_fine (ahead l j n s) b h p f = ((b, f.0 (p + 1 + n)), lines_fine s b h (p + 1) f.1)
   lines_fine (behind l j n s) b h p f = ((b, f.0 (p - n)), lines_fine s b h (p + 1) f.1)
   lines_fine (deep l j s) b h p f = ((b, f.0 h), lines_fine s b h (p + 1) f.1)
-  lines_fine (part d a s) b h p f = lines_join (lines_of (h + d) p a) (lines_of h (finish p a) s) (lines_fine a b (h + d) p f.0) (lines_fine s b h (finish p a) f.1)
+  lines_fine (part d a s) b h p f = All-append FineLine (lines_of (h + d) p a) (lines_of h (finish p a) s) (lines_fine a b (h + d) p f.0) (lines_fine s b h (finish p a) f.1)
   lines_fine (held k far q a s) b h p f =
-      lines_join (lines_of h p a) (lines_of h (finish p a) s) (lines_fine a (ensured rows id kind k b) h p f.1) (lines_fine s b h (finish p a) f.2)
+      All-append FineLine (lines_of h p a) (lines_of h (finish p a) s) (lines_fine a (ensured rows id kind k b) h p f.1) (lines_fine s b h (finish p a) f.2)
 
   -- ---- rows
 
@@ -81,9 +79,9 @@ module _ (rows : List IndexRow) (id : ℕ) (kind : SeqKind) where
   rows_fine (ahead l j n s) b h p f = rows_fine s b h (p + 1) f.1
   rows_fine (behind l j n s) b h p f = rows_fine s b h (p + 1) f.1
   rows_fine (deep l j s) b h p f = rows_fine s b h (p + 1) f.1
-  rows_fine (part d a s) b h p f = every_join NamesRight (rows_of (h + d) p a) (rows_of h (finish p a) s) (rows_fine a b (h + d) p f.0) (rows_fine s b h (finish p a) f.1)
+  rows_fine (part d a s) b h p f = All-append NamesRight (rows_of (h + d) p a) (rows_of h (finish p a) s) (rows_fine a b (h + d) p f.0) (rows_fine s b h (finish p a) f.1)
   rows_fine (held k far q a s) b h p f =
-      every_join NamesRight (rows_of h p a) (row_over k h p (finish p a) far q ∷ rows_of h (finish p a) s) (rows_fine a (ensured rows id kind k b) h p f.1) (f.0, rows_fine s b h (finish p a) f.2)
+      All-append NamesRight (rows_of h p a) (row_over k h p (finish p a) far q ∷ rows_of h (finish p a) s) (rows_fine a (ensured rows id kind k b) h p f.1) (f.0, rows_fine s b h (finish p a) f.2)
 
   -- ---- throws
 
@@ -101,18 +99,13 @@ module _ (rows : List IndexRow) (id : ℕ) (kind : SeqKind) where
     thrown_both p m q a b place n line lo hi e f = split_at place m (λ less. a place n line lo less e f) (λ more. b place n line more hi e f)
 
     thrown_on : (b : Bool) (p q : ℕ) (x : Line) (out : List CatchRow) → slice_get lines p ≡ Some x → rows_at p table ≡ out → IsFine rows id kind b x.instr → (b ≡ true → HasEnsure out) → Thrown (p + 1) q → Thrown p q
-    thrown_on b p q x out e o fine ens more place n line lo hi f t = pick (same_or_less p place lo)
+    thrown_on b p q x out e o fine ens more place n line lo hi f t = split_at p place (λ less. more place n line (omega (arith, less)) hi f t) (λ below. here (omega (arith, below, lo)))
       where
-        pick : (p ≡ place) ⊎ (p < place) → Throwing place n
-        pick (inl same) =
-            let same_line : x ≡ line = some_is x line (sym (subst (λ y. slice_get lines y ≡ Some x) same e) ∙ f) in
+        here : p ≡ place → Throwing place n
+        here same =
+            let same_line : x ≡ line = same_Some x line (sym (subst (λ y. slice_get lines y ≡ Some x) same e) ∙ f) in
             let w : ThrowsWell rows id kind b (Throw n) = subst (ThrowsWell rows id kind b) (ap (λ (y : Line). y.instr) same_line ∙ t) fine.4 in
-            record {
-              number = w.0;
-              pending = w.1;
-              ensured = λ six. subst (EnsuredBy table) same (ensured_by p table (subst HasEnsure (sym o) (ens (w.2 six))));
-            }
-        pick (inr less) = more place n line (omega arith) hi f t
+            record { number = w.0; pending = w.1; ensured = λ six. subst (EnsuredBy table) same (ensured_by p table (subst HasEnsure (sym o) (ens (w.2 six)))) }
 
     in_held : (k : CatchKind) (b : Bool) (r : CatchRow) (out : List CatchRow) → r.kind ≡ k → (b ≡ true → HasEnsure out) → ensured rows id kind k b ≡ true → HasEnsure (r ∷ out)
     in_held catches.Ensure b r out e f g = inl e
@@ -157,7 +150,7 @@ module _ (rows : List IndexRow) (id : ℕ) (kind : SeqKind) where
     operands = all_by FineLine (λ (line : Line). HasKnownOperands line.instr) lines (λ line x. x.1.3) fine;
     leaves = λ e. all_by FineLine (λ (line : Line). line.instr ≢ Leave) lines (λ line x. no_leave line.instr x.0 x.1 e) fine;
     throws = λ place n line e t.
-        let z = finish_size s 0 in let y = lines_size s h 0 in let u = within_list lines place line e in
+        let z = finish_size s 0 in let y = lines_size s h 0 in let u = slice_get_within lines place line e in
         let x = thrown lines (rows_of h 0 s) s false h 0 [] f.all (placed s h) (λ w. absurd cc) place n line (omega arith) (omega (arith, z, y, u)) e t in
         record { number = x.number; pending = x.pending; ensured = x.ensured };
   }

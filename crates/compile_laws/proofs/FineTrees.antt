@@ -17,7 +17,8 @@ use Rattle.code_meaning.specs.Code.{Shape, done, op, ahead, part, size}
 use Rattle.compile_table.specs.Shapes.{Where, looped, plain_send, set_by_send, number_of, count, count_pairs, gets, self_flag, receiver_flag, value_flag, bare_flag, throw_by, with_literal, open_end, on_self, own, start, line_at, in_rescue, in_ensure, shape, params_shape, all_shape, rest_shape, args_shape, pairs_shape, pieces_shape, path_shape, receiver_shape, value_shape, other_shape, last_shape, values_shape, patterns_shape, pattern_shape, cases_shape, tests_shape, test_shape, hits_shape, clauses_shape, clause_shape, classes_shape, bodies_shape}
 use Rattle.compile_table.specs.Sequences.{Compiled, compiled_body, compiled_part, in_body, in_block, index_row, sequences, block_sequences, trees_sequences, other_sequences, pairs_sequences, pieces_sequences, whens_sequences, clauses_sequences, params_sequences}
 use Rattle.tree_laws.specs.Formed.{IsFormed, IsBody, IsRescuePart, IsEnsurePart, TreesFormed, OtherFormed, PairsFormed, PiecesFormed, WhensFormed, ClausesFormed, ParamsFormed}
-use Rattle.compile_laws.proofs.TreeFits.{self_bit, receiver_bit}
+use Rattle.compile_laws.proofs.Does.{self_bit}
+use Rattle.compile_laws.proofs.TreeFits.{receiver_bit}
 use Rattle.compile_laws.proofs.FineCode as code
 use Rattle.compile_laws.proofs.FineCode.{MayPend, IsFine, Fine, nothing, plain, leaping, deeply, over, caught, ok, Stands, goal_fine, sets_fine, named_fine, spread_below, KnowsBlock, names, some, literal_fine, send_well, safe_well, super_well, bare_well, plain_well, by_send_fine, or_set_fine, attribute_read_fine, index_read_fine, turns_fine}
 

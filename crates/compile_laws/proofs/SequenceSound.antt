@@ -2,8 +2,8 @@
 use Rattle.std.proofs.Common.{◌≡◌, ℕ, zero, suc, ◌+◌, ◌≤◌, ◌<◌, refl, sym, subst, ap, ◌∙◌, arith, List, [], ◌∷◌, ◌++◌, length, Option, Some, None, All, length-append, get_or}
 use Rattle.std.specs.Prelude.{⊤, IfSome, slice_get}
 use Rattle.std.specs.List.{AllByRecursion}
-use Rattle.std.proofs.lemmas.Option.{slice_get-get_or, slice_get_past}
-use Rattle.std.proofs.lemmas.List.Elements.{All-from_recursion, All-from_get_or}
+use Rattle.std.proofs.lemmas.Option.{slice_get-get_or, slice_get_within}
+use Rattle.std.proofs.lemmas.List.Elements.{All-from_recursion, All-from_get_or, All-weaker}
 use Rattle.iseq_types.specs.declared.instructions.Instr.TheVariants.{Pop}
 use Rattle.iseq_types.specs.declared.sequences.CatchRow.{CatchRow}
 use Rattle.iseq_types.specs.declared.sequences.Line.{Line}
@@ -17,7 +17,7 @@ use Rattle.code_meaning.specs.Code.{at_line, Shape, done, op, ahead, behind, dee
 use Rattle.code_meaning.proofs.Sizes.{finish_size}
 use Rattle.code_meaning.proofs.Placing.{placed}
 use Rattle.compile_laws.proofs.ShapeDepths.{past, depths_of, depths_length, Edges, Fit, marked}
-use Rattle.compile_laws.proofs.ShapeSound.{none_is, split_at, Led, RowRight, Right, backs_none, outers_none, at_first, right}
+use Rattle.compile_laws.proofs.ShapeSound.{Led, RowRight, Right, backs_none, outers_none, at_first, right}
 use Rattle.compile_laws.proofs.FitSteps.{fit_size}
 
 pub lines_size : (s : Shape) (h p : ℕ) → length (lines_of h p s) ≡ size s
@@ -55,19 +55,12 @@ some_at (None ∷ xs) k z a less = absurd a
 some_at (Some d ∷ xs) zero z a less = (d, refl)
 some_at (Some d ∷ xs) (suc k) z a less = some_at xs k z a (omega (arith, less))
 
-pub within_list : {X : Type 0} (xs : List X) (k : ℕ) (x : X) → slice_get xs k ≡ Some x → k < length xs
-within_list xs k x e = split_at k (length xs) (λ less. less) (λ more. none_is x (sym (slice_get_past xs k more) ∙ e))
-
 if_some : (P : ℕ → Type 0) (o : Option ℕ) → ((t : ℕ) → o ≡ Some t → P t) → IfSome o P
 if_some P None f = tt
 if_some P (Some t) f = f t refl
 
 pub all_by : {X : Type 0} (P Q : X → Type 0) (xs : List X) → ((x : X) → P x → Q x) → AllByRecursion P xs → All Q xs
-all_by {X} P Q xs f a = All-from_recursion Q xs (each xs a)
-  where
-    each : (ys : List X) → AllByRecursion P ys → AllByRecursion Q ys
-    each [] b = tt
-    each (y ∷ ys) b = (f y b.0, each ys b.1)
+all_by P Q xs f a = All-weaker P Q f xs (All-from_recursion P xs a)
 
 -- the sequence with this code over a depth
 abbrev pub with_code : Sequence → ℕ → Shape → Sequence
@@ -125,7 +118,7 @@ has_depths seq kind h s f e entries = record {
     r = right found lines table end s edges h h 0 [] (omega arith) (f.fits None 0 None) (marked s h h) (placed s h) (let z = same in omega arith) (λ less. absurd (let z = same in omega (arith, less))) (backs_none found lines table end 0 0) (outers_none found lines table end (finish 0 s) h)
 
     led : (place depth : ℕ) (line : Line) → DepthAt found place depth → slice_get lines place ≡ Some line → Led found lines table end place depth line
-    led place depth line d g = r.led place depth line (omega arith) (let z = same in let y = within_list lines place line g in omega arith) d g
+    led place depth line d g = r.led place depth line (omega arith) (let z = same in let y = slice_get_within lines place line g in omega arith) d g
 
     target_inside : (k : ℕ) → k < end → IfSome (target_of (get_or lines k (at_line 0 Pop)).instr) (λ target. target < end)
     target_inside k less =

@@ -1,5 +1,5 @@
 -- The depths at the places of code, from its shape, and what makes them right.
-use Rattle.std.proofs.Common.{◌≡◌, ℕ, zero, suc, ◌+◌, ◌-◌, ◌≤◌, ◌<◌, ◌⊎◌, cond, refl, sym, subst, ap, ◌∙◌, arith, List, [], ◌∷◌, ◌++◌, length, Option, Some, None, append_assoc, length-append}
+use Rattle.std.proofs.Common.{◌≡◌, ℕ, zero, suc, ◌+◌, ◌-◌, ◌≤◌, ◌<◌, ◌⊎◌, cond, refl, sym, subst, ap, ◌∙◌, arith, List, [], ◌∷◌, ◌++◌, length, Option, Some, None, append_assoc, append-nil, length-append}
 use Rattle.std.specs.Prelude.{⊤, slice_get, nat_lt}
 use Rattle.std.proofs.Math.Seq.{get_or-append_seam}
 use Rattle.std.proofs.lemmas.Option.{slice_get-get_or}
@@ -210,10 +210,6 @@ module _ (found : List (Option ℕ)) where
         (omega (arith, n, length-append pre (depths_of h c a), depths_length a h c, finish_size a p)),
   )
 
-no_more_depths : (xs : List (Option ℕ)) → xs ≡ xs ++ []
-no_more_depths [] = refl
-no_more_depths (x ∷ xs) = ap (λ y. x ∷ y) (no_more_depths xs)
-
 -- those of a whole sequence
 pub marked : (s : Shape) (h c : ℕ) → Marked (depths_of h c s) h c 0 s
-marked s h c = marking (depths_of h c s) s h c 0 [] [] (no_more_depths (depths_of h c s)) refl
+marked s h c = marking (depths_of h c s) s h c 0 [] [] (sym (append-nil (depths_of h c s))) refl

@@ -2,7 +2,9 @@
 use Rattle.std.proofs.Common.{◌≡◌, ℕ, zero, suc, ◌+◌, ◌-◌, ◌≤◌, ◌<◌, ◌⊎◌, inl, inr, cond, refl, sym, subst, ap, ◌∙◌, arith, List, [], ◌∷◌, ◌++◌, Option, Some, None}
 use Rattle.std.specs.Prelude.{IsTrue, slice_get}
 use Rattle.std.specs.List.{AllByRecursion}
-use Rattle.std.proofs.lemmas.Bool.{lt-ltb}
+use Rattle.std.proofs.lemmas.Bool.{lt-ltb, cases_lt}
+use Rattle.std.proofs.lemmas.Option.{none-some, same_Some}
+use Rattle.std.proofs.ByRecursion.{All-append}
 use Rattle.iseq_types.specs.declared.instructions.Instr.{Instr}
 use Rattle.iseq_types.specs.declared.sequences.CatchKind.{CatchKind}
 use Rattle.iseq_types.specs.declared.sequences.CatchKind.TheVariants as catches
@@ -15,47 +17,19 @@ use Rattle.code_meaning.specs.Code.{at_line, row_over, Shape, done, op, ahead, b
 use Rattle.code_meaning.proofs.Sizes.{finish_size}
 use Rattle.compile_laws.proofs.ShapeDepths.{begins, past, look, look_part, look_held, Leaps, Edges, farther, step, within_part, outer_of, within_held, behind_held, GoesOn, Fits, Marked}
 
-pub some_is : {A : Type 0} (a b : A) → Some a ≡ Some b → a ≡ b
-some_is a b e = cc
-
-pub none_is : {A X : Type 0} (a : A) → None ≡ Some a → X
-none_is a e = absurd cc
-
-zero_or_more : (n : ℕ) → (n ≡ 0) ⊎ (0 < n)
-zero_or_more zero = inl refl
-zero_or_more (suc n) = inr (omega arith)
-
-pub same_or_less : (a b : ℕ) → a ≤ b → (a ≡ b) ⊎ (a < b)
-same_or_less a b e = pick (zero_or_more (b - a))
+-- below a number or not
+pub split_at : {X : Type 0} (a b : ℕ) → (a < b → X) → (b ≤ a → X) → X
+split_at {X} a b f g = pick (cases_lt a b)
   where
-    pick : (b - a ≡ 0) ⊎ (0 < b - a) → (a ≡ b) ⊎ (a < b)
-    pick (inl z) = inl (omega arith)
-    pick (inr z) = inr (omega arith)
-
-pub less_or_not : (a b : ℕ) → (a < b) ⊎ (b ≤ a)
-less_or_not a b = pick (zero_or_more (b - a))
-  where
-    pick : (b - a ≡ 0) ⊎ (0 < b - a) → (a < b) ⊎ (b ≤ a)
-    pick (inl z) = inr (omega arith)
-    pick (inr z) = inl (omega arith)
-
-pub every_join : (Q : CatchRow → Type 0) (xs ys : List CatchRow) → AllByRecursion Q xs → AllByRecursion Q ys → AllByRecursion Q (xs ++ ys)
-every_join Q [] ys a b = b
-every_join Q (x ∷ xs) ys a b = (a.0, every_join Q xs ys a.1 b)
+    pick : (a < b) ⊎ (b ≤ a) → X
+    pick (inl e) = f e
+    pick (inr e) = g e
 
 after_leap : (j : ℕ → Instr) → Leaps j → (t c : ℕ) → depth_after (j t) c ≡ depth_after (j 0) c
 after_leap j e t c = ap (λ x. c - x + leaves_of (j t)) (e.takes t) ∙ ap (λ x. c - takes_of (j 0) + x) (e.leaves t)
 
 past_on : (i : Instr) (h c : ℕ) (s : Shape) → IsTrue (goes_on i) → past i h c s ≡ depth_after i c
 past_on i h c s e = ap (λ x. cond x (depth_after i c) (begins h s)) e
-
--- below a number or not
-pub split_at : {X : Type 0} (a b : ℕ) → (a < b → X) → (b ≤ a → X) → X
-split_at {X} a b f g = pick (less_or_not a b)
-  where
-    pick : (a < b) ⊎ (b ≤ a) → X
-    pick (inl e) = f e
-    pick (inr e) = g e
 
 module _ (found : List (Option ℕ)) (lines : List Line) (table : List CatchRow) (end : ℕ) where
   -- what holds at the places from one to another, by the depths of the list
@@ -89,21 +63,16 @@ module _ (found : List (Option ℕ)) (lines : List Line) (table : List CatchRow)
   span_none Q p place depth line lo hi d f = absurd (omega (arith, lo, hi))
 
   span_both : (Q : ℕ → ℕ → Line → Type 0) (p m q : ℕ) → Span Q p m → Span Q m q → Span Q p q
-  span_both Q p m q a b place depth line lo hi d f = pick (less_or_not place m)
-    where
-      pick : (place < m) ⊎ (m ≤ place) → Q place depth line
-      pick (inl e) = a place depth line lo e d f
-      pick (inr e) = b place depth line e hi d f
+  span_both Q p m q a b place depth line lo hi d f = split_at place m (λ e. a place depth line lo e d f) (λ e. b place depth line e hi d f)
 
   span_on : (Q : ℕ → ℕ → Line → Type 0) (p q c : ℕ) (x : Line) → DepthAt found p c → slice_get lines p ≡ Some x → Q p c x → Span Q (p + 1) q → Span Q p q
-  span_on Q p q c x m e good more place depth line lo hi d f = pick (same_or_less p place lo)
+  span_on Q p q c x m e good more place depth line lo hi d f = split_at p place (λ less. more place depth line (omega (arith, less)) hi d f) (λ below. here (omega (arith, below, lo)))
     where
-      pick : (p ≡ place) ⊎ (p < place) → Q place depth line
-      pick (inl same) =
-          let same_depth : c ≡ depth = some_is c depth (some_is (Some c) (Some depth) (sym (subst (λ y. DepthAt found y c) same m) ∙ d)) in
-          let same_line : x ≡ line = some_is x line (sym (subst (λ y. slice_get lines y ≡ Some x) same e) ∙ f) in
+      here : p ≡ place → Q place depth line
+      here same =
+          let same_depth : c ≡ depth = same_Some c depth (same_Some (Some c) (Some depth) (sym (subst (λ y. DepthAt found y c) same m) ∙ d)) in
+          let same_line : x ≡ line = same_Some x line (sym (subst (λ y. slice_get lines y ≡ Some x) same e) ∙ f) in
           subst (λ y. Q y depth line) same (subst (λ y. Q p y line) same_depth (subst (Q p c) same_line good))
-      pick (inr less) = more place depth line (omega arith) hi d f
 
   spares_less : (h k p q : ℕ) → h ≤ k → Span (Spares k) p q → Span (Spares h) p q
   spares_less h k p q e a place depth line lo hi d f = let b = a place depth line lo hi d f in omega arith
@@ -126,15 +95,15 @@ module _ (found : List (Option ℕ)) (lines : List Line) (table : List CatchRow)
   Outers b q h = (m : ℕ) → b ≡ Some m → (q + m < end) × DepthAt found (q + m) (h + 1)
 
   pub backs_none : (p h : ℕ) → Backs None p h
-  backs_none p h m e = none_is m e
+  backs_none p h m e = absurd (none-some m e)
 
   pub outers_none : (p h : ℕ) → Outers None p h
-  outers_none p h m e = none_is m e
+  outers_none p h m e = absurd (none-some m e)
 
   backs_farther : (k p q h : ℕ) (b : Option ℕ) → q ≡ p + k → Backs b p h → Backs (farther k b) q h
-  backs_farther k p q h None e f m g = none_is m g
+  backs_farther k p q h None e f m g = absurd (none-some m g)
   backs_farther k p q h (Some n) e f m g =
-      let same : n + k ≡ m = some_is (n + k) m g in let r = f n refl in
+      let same : n + k ≡ m = same_Some (n + k) m g in let r = f n refl in
       (omega (arith, same, e, r.0), subst (λ y. DepthAt found y h) (omega (arith, same, e, r.0)) r.1)
 
   pub at_first : (s : Shape) (e : Edges) (h c p : ℕ) → 0 < size s → Fits e h c s → Marked found h c p s → DepthAt found p c
@@ -185,9 +154,9 @@ module _ (found : List (Option ℕ)) (lines : List Line) (table : List CatchRow)
       (look_right s (behind_held e c a) h (h + 1) (finish p a) (suc n - size a) f.5 m.1 b (omega (arith, large, g, less)) (omega (arith, large, le)))))
 
   outers_held : (h q m : ℕ) (e : Edges) (s : Shape) (room : ℕ) → e.room ≡ room → finish q s + room ≤ end → Behind h (finish q s) → outer_of room (size s) ≡ Some m → (q + m < end) × DepthAt found (q + m) (h + 1)
-  outers_held h q m e s zero same inside b g = none_is m g
+  outers_held h q m e s zero same inside b g = absurd (none-some m g)
   outers_held h q m e s (suc n) same inside b g =
-      let t : size s ≡ m = some_is (size s) m g in let z = finish_size s q in
+      let t : size s ≡ m = same_Some (size s) m g in let z = finish_size s q in
       (omega (arith, t, z, inside), subst (λ y. DepthAt found y (h + 1)) (omega (arith, t, z)) (b (omega (arith, inside))))
 
   row_has : (h c p far : ℕ) (k : CatchKind) (r : ℕ) (a s : Shape) (e : Edges) → (k ≡ catches.Rescue → c ≡ h) → 0 < size a → Fits (within_held e s) h c a → Marked found h c p a
@@ -203,7 +172,7 @@ module _ (found : List (Option ℕ)) (lines : List Line) (table : List CatchRow)
       (record {
         enough = f.0;
         next = λ on less. subst (DepthAt found (p + 1)) (past_on i h c s on) (at_start s (step 1 e) h (past i h c s) (p + 1) f.3 m.1 b less);
-        jump = λ t is. none_is t (sym f.2 ∙ is);
+        jump = λ t is. absurd (none-some t (sym f.2 ∙ is));
       })
       f.1 (right s (step 1 e) h (past i h c s) (p + 1) out one f.3 m.1 g.2 room b (backs_farther 1 p (p + 1) e.entered e.back refl k) o)
   right (ahead l j n s) e h c p out one f m g room b k o =
@@ -213,9 +182,8 @@ module _ (found : List (Option ℕ)) (lines : List Line) (table : List CatchRow)
         enough = omega (arith, (f.0).needs t, f.1);
         next = λ on less. subst (DepthAt found (p + 1)) (past_on (j 0) h c s (subst IsTrue ((f.0).on t) on) ∙ sym (after_leap j f.0 t c)) (at_start s (step 1 e) h (past (j 0) h c s) (p + 1) f.4 m.1 b less);
         jump = λ u is.
-            let same : t ≡ u = some_is t u (sym ((f.0).target t) ∙ is) in
-            let less : t < end = omega (arith, f.2, z, room) in
-            (
+            let same : t ≡ u = same_Some t u (sym ((f.0).target t) ∙ is) in
+            let less : t < end = omega (arith, f.2, z, room) in (
               subst (λ y. y < end) same less,
               subst (λ y. DepthAt found y (depth_after (j t) c)) same
                   (subst (DepthAt found t) (f.3 ∙ sym (after_leap j f.0 t c)) (look_right s (step 1 e) h (past (j 0) h c s) (p + 1) n f.4 m.1 b less (omega (arith, f.2, one)))),
@@ -230,7 +198,7 @@ module _ (found : List (Option ℕ)) (lines : List Line) (table : List CatchRow)
         enough = omega (arith, (f.0).needs t, f.1);
         next = λ on less. subst (DepthAt found (p + 1)) (past_on (j 0) h c s (subst IsTrue ((f.0).on t) on) ∙ sym (after_leap j f.0 t c)) (at_start s (step 1 e) h (past (j 0) h c s) (p + 1) f.4 m.1 b less);
         jump = λ u is.
-            let same : t ≡ u = some_is t u (sym ((f.0).target t) ∙ is) in
+            let same : t ≡ u = same_Some t u (sym ((f.0).target t) ∙ is) in
             (subst (λ y. y < end) same (omega (arith, z, room)), subst (λ y. DepthAt found y (depth_after (j t) c)) same (subst (DepthAt found t) (f.3 ∙ sym (after_leap j f.0 t c)) w.1));
       })
       (omega (arith, (f.0).takes t, f.1)) (right s (step 1 e) h (past (j 0) h c s) (p + 1) out one f.4 m.1 g.2 room b (backs_farther 1 p (p + 1) e.entered e.back refl k) o)
@@ -240,32 +208,32 @@ module _ (found : List (Option ℕ)) (lines : List Line) (table : List CatchRow)
       (record {
         enough = f.0;
         next = λ on less. subst (DepthAt found (p + 1)) (past_on (j h) h c s on) (at_start s (step 1 e) h (past (j h) h c s) (p + 1) f.3 m.1 b less);
-        jump = λ t is. none_is t (sym f.2 ∙ is);
+        jump = λ t is. absurd (none-some t (sym f.2 ∙ is));
       })
       f.1 (right s (step 1 e) h (past (j h) h c s) (p + 1) out one f.3 m.1 g.2 room b (backs_farther 1 p (p + 1) e.entered e.back refl k) o)
   right (part d a s) e h c p out one f m g room b k o =
       let y = finish_size a p in let z = finish_size s (finish p a) in
       let inner : Right (h + d) p (finish p a) (rows_of (h + d) p a) =
-          right a within_part (h + d) (h + d) p out (omega arith) f.3 m.0 g.0 (omega (arith, f.2, z, room)) (at_start s (step (size a) e) h (h + d + 1) (finish p a) f.4 m.1 b) (backs_none p 0) (outers_none (finish p a) (h + d)) in
+      right a within_part (h + d) (h + d) p out (omega arith) f.3 m.0 g.0 (omega (arith, f.2, z, room)) (at_start s (step (size a) e) h (h + d + 1) (finish p a) f.4 m.1 b) (backs_none p 0) (outers_none (finish p a) (h + d)) in
       let rest : Right h (finish p a) (finish (finish p a) s) (rows_of h (finish p a) s) = right s (step (size a) e) h (h + d + 1) (finish p a) out one f.4 m.1 g.1 room b (backs_farther (size a) p (finish p a) e.entered e.back y k) o in
       record {
         led = span_both Led p (finish p a) (finish (finish p a) s) inner.led rest.led;
         spared = span_both (Spares h) p (finish p a) (finish (finish p a) s) (spares_less h (h + d) p (finish p a) (omega arith) inner.spared) rest.spared;
-        caught = every_join RowRight (rows_of (h + d) p a) (rows_of h (finish p a) s) inner.caught rest.caught;
+        caught = All-append RowRight (rows_of (h + d) p a) (rows_of h (finish p a) s) inner.caught rest.caught;
       }
   right (held kind far r a s) e h c p out one f m g room b k o =
       let y = finish_size a p in let z = finish_size s (finish p a) in
       let inner : Right h p (finish p a) (rows_of h p a) =
-          right a (within_held e s) h c p (row_over kind h p (finish p a) far r ∷ out) (omega arith) f.4 m.0 g.0 (omega (arith, f.2, z, room)) (at_start s (behind_held e c a) h (h + 1) (finish p a) f.5 m.1 b) (backs_none p 0)
-          (λ n is. outers_held h (finish p a) n e s e.room refl room b is) in
+      right a (within_held e s) h c p (row_over kind h p (finish p a) far r ∷ out) (omega arith) f.4 m.0 g.0 (omega (arith, f.2, z, room)) (at_start s (behind_held e c a) h (h + 1) (finish p a) f.5 m.1 b) (backs_none p 0)
+      (λ n is. outers_held h (finish p a) n e s e.room refl room b is) in
       let rest : Right h (finish p a) (finish (finish p a) s) (rows_of h (finish p a) s) =
-          right s (behind_held e c a) h (h + 1) (finish p a) out one f.5 m.1 g.1 room b
-          (λ n is. let same : size a ≡ n = some_is (size a) n is in (omega (arith, same, y), subst (λ x. DepthAt found x c) (omega (arith, same, y)) (at_first a (within_held e s) h c p f.1 f.4 m.0))) o in
+      right s (behind_held e c a) h (h + 1) (finish p a) out one f.5 m.1 g.1 room b
+      (λ n is. let same : size a ≡ n = same_Some (size a) n is in (omega (arith, same, y), subst (λ x. DepthAt found x c) (omega (arith, same, y)) (at_first a (within_held e s) h c p f.1 f.4 m.0))) o in
       let goes : (finish p a + far < end) × DepthAt found (finish p a + far) (h + 1) = on_from y z f.3 in
       record {
         led = span_both Led p (finish p a) (finish (finish p a) s) inner.led rest.led;
         spared = span_both (Spares h) p (finish p a) (finish (finish p a) s) inner.spared rest.spared;
-        caught = every_join RowRight (rows_of h p a) (row_over kind h p (finish p a) far r ∷ rows_of h (finish p a) s) inner.caught
+        caught = All-append RowRight (rows_of h p a) (row_over kind h p (finish p a) far r ∷ rows_of h (finish p a) s) inner.caught
             (record { from = omega (arith, f.1, y, z, room); to = omega (arith, z, room); ordered = (omega (arith, f.1, y), omega arith); cont = goes.0; has = row_has h c p far kind r a s e f.0 f.1 f.4 m.0 goes.1; kept = inner.spared }, rest.caught);
       }
     where

@@ -1,6 +1,7 @@
 -- The sequences of a tree are sound, where the index has a row for each.
 use Rattle.std.proofs.Common.{◌≡◌, Bool, true, false, refl, sym, subst, List, [], ◌∷◌, ◌++◌}
 use Rattle.std.specs.List.{AllByRecursion}
+use Rattle.std.proofs.ByRecursion.{All-append}
 use Rattle.ruby_tree.specs.Names.{Bytes}
 use Rattle.ruby_tree.specs.Tree.{SourcePosition, Tree, at, Form, joined, array, hash, range, constant_path, assign, assign_all, assign_attribute, assign_index, operate_attribute, or_attribute, and_attribute, operate_index, or_index, and_index, send, safe_send, yield, super, bare_super, statements, both, either, negated, if_else, while_loop, case_of, case_tests, return_with, break_with, next_with, rescue, ensure, rescue_sequence, ensure_sequence, method, class, module_named, body, Trees, no_more, more, Other, without, with, Pairs, no_pair, pair, Pieces, no_piece, plain_piece, code_piece, Whens, no_when, when, Rescues, no_clause, clause, Params, no_param, required, optional, rest_param, block_param}
 use Rattle.iseq_types.specs.declared.sequences.IndexRow.{IndexRow}
@@ -23,10 +24,6 @@ module _ (rows : List IndexRow) (index : AreIndexRows rows) where
 
   abbrev pub AllSound : List Compiled → Type 0
   AllSound cs = AllByRecursion SoundAt cs
-
-  join : (xs ys : List Compiled) → AllSound xs → AllSound ys → AllSound (xs ++ ys)
-  join [] ys a b = b
-  join (x ∷ xs) ys a b = (a.0, join xs ys a.1 b)
 
   -- where the sequences within a sequence find their locals
   child_homes : (l : Where) (c : Compiled) (k : SeqKind) → c.kind ≡ k → c.parent ≡ l.number → HasRow rows index c → IsChild rows l.number k c.inner.number
@@ -64,7 +61,7 @@ module _ (rows : List IndexRow) (index : AreIndexRows rows) where
   H l = IsHomed rows index l
 
   both_sound : (xs ys : List Compiled) → C (xs ++ ys) → (C xs → AllSound xs) → (C ys → AllSound ys) → AllSound (xs ++ ys)
-  both_sound xs ys c f g = let d = children_split rows xs ys c in join xs ys (f d.0) (g d.1)
+  both_sound xs ys c f g = let d = children_split rows xs ys c in All-append SoundAt xs ys (f d.0) (g d.1)
 
   three_sound : (xs ys zs : List Compiled) → C (xs ++ (ys ++ zs)) → (C xs → AllSound xs) → (C ys → AllSound ys) → (C zs → AllSound zs) → AllSound (xs ++ (ys ++ zs))
   three_sound xs ys zs c f g h = both_sound xs (ys ++ zs) c f (λ d. both_sound ys zs d g h)
@@ -87,13 +84,13 @@ module _ (rows : List IndexRow) (index : AreIndexRows rows) where
     trees_in (at s (or_index a i u)) l k f h m c = three_sound (sequences l a) (sequences l i) (sequences l u) c (λ d. trees_in a l k f.0 h.0 m d) (λ d. trees_in i l k f.1.0 h.1.0 m d) (λ d. trees_in u l k f.1.1 h.1.1 m d)
     trees_in (at s (and_index a i u)) l k f h m c = three_sound (sequences l a) (sequences l i) (sequences l u) c (λ d. trees_in a l k f.0 h.0 m d) (λ d. trees_in i l k f.1.0 h.1.0 m d) (λ d. trees_in u l k f.1.1 h.1.1 m d)
     trees_in (at s (send o ts ks v x bare t)) l k f h m c =
-        both_sound (other_sequences l o) (trees_sequences l ts ++ (other_sequences l v ++ block_sequences l t)) c (λ d. other_in o l k f.1.0 h.0 m d) 
+        both_sound (other_sequences l o) (trees_sequences l ts ++ (other_sequences l v ++ block_sequences l t)) c (λ d. other_in o l k f.1.0 h.0 m d)
         (λ d. three_sound (trees_sequences l ts) (other_sequences l v) (block_sequences l t) d (λ e. all_in ts l k f.1.1.0 h.1.0 m e) (λ e. other_in v l k f.1.1.1.0 h.1.1.0 m e) (λ e. block_in t l f.1.1.1.1 h.1.1.1 m e))
     trees_in (at s (safe_send a ts ks v x t)) l k f h m c =
-        both_sound (sequences l a) (trees_sequences l ts ++ (other_sequences l v ++ block_sequences l t)) c (λ d. trees_in a l k f.1.0 h.0 m d) 
+        both_sound (sequences l a) (trees_sequences l ts ++ (other_sequences l v ++ block_sequences l t)) c (λ d. trees_in a l k f.1.0 h.0 m d)
         (λ d. three_sound (trees_sequences l ts) (other_sequences l v) (block_sequences l t) d (λ e. all_in ts l k f.1.1.0 h.1.0 m e) (λ e. other_in v l k f.1.1.1.0 h.1.1.0 m e) (λ e. block_in t l f.1.1.1.1 h.1.1.1 m e))
     trees_in (at s (yield ts ks)) l k f h m c = all_in ts l k f.1 h m c
-    trees_in (at s (super ts ks v t)) l k f h m c = 
+    trees_in (at s (super ts ks v t)) l k f h m c =
         three_sound (trees_sequences l ts) (other_sequences l v) (block_sequences l t) c (λ e. all_in ts l k f.1.0 h.0 m e) (λ e. other_in v l k f.1.1.0 h.1.0 m e) (λ e. block_in t l f.1.1.1 h.1.1 m e)
     trees_in (at s (bare_super t)) l k f h m c = block_in t l f h.1 m c
     trees_in (at s (statements ts)) l k f h m c = all_in ts l k f h m c

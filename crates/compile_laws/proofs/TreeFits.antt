@@ -11,6 +11,7 @@ use Rattle.ruby_meaning.specs.Locals.{params_of, names_of_params}
 use Rattle.code_meaning.specs.Code.{Shape, done, op, ahead, part, held, size}
 use Rattle.compile_table.specs.Shapes.{Where, looped, number_of, count, count_pairs, count_pieces, set_goal, sets, gets, named, is_self_form, self_flag, receiver_flag, value_flag, bare_flag, plain_send, with_literal, branch_by, throw_by, set_by_send, or_set, attribute_read, index_read, turns, own, start, line_at, shape, params_shape, all_shape, rest_shape, args_shape, pairs_shape, pieces_shape, path_shape, receiver_shape, value_shape, other_shape, last_shape, values_shape, patterns_shape, pattern_shape, cases_shape, tests_shape, test_shape, hits_shape, clauses_shape, clause_shape, classes_shape, bodies_shape}
 use Rattle.tree_laws.specs.Formed.{IsFormed, IsBody, IsRescuePart, IsEnsurePart, TreesFormed, OtherFormed, PairsFormed, PiecesFormed, WhensFormed, ClausesFormed, ParamsFormed}
+use Rattle.compile_laws.proofs.Does.{self_bit}
 use Rattle.compile_laws.proofs.ShapeDepths.{begins, past, leaps_jump, leaps_if, leaps_unless, leaps_nil, Leaps, look, Fits, Fit}
 use Rattle.compile_laws.proofs.FitSteps.{finished, at_depth, fit_size, on, off, deep_on, Looks, looks_on, looks_over, looks_part, looks_held, looks_here, looks_end, leap, leap_end, inside}
 
@@ -65,13 +66,6 @@ record Calls (i : Instr) (n : ℕ) : Type 0 where
 
 calling : {x h c line n : ℕ} {i : Instr} {s : Shape} (c1 : ℕ) → Calls i n → h + n ≤ c → c1 ≡ c - n + 1 → Fit x h c1 s → Fit x h c (op line i s)
 calling {x} {h} {c} {line} {n} {i} {s} c1 e less k f = on c1 (omega (arith, less, e.needs)) (omega (arith, less, e.takes)) e.target e.goes (omega (arith, less, k, e.takes, e.leaves)) f
-
-pub self_bit : (a : Tree) → (self_flag a ≡ 0) ⊎ (self_flag a ≡ 1)
-self_bit (at s f) = by_form f
-  where
-    by_form : (f : Form) → (is_self_form f ≡ 0) ⊎ (is_self_form f ≡ 1)
-    by_form self_value = inr refl
-    by_form f = inl refl
 
 pub receiver_bit : (o : Other) → (receiver_flag o ≡ 0) ⊎ (receiver_flag o ≡ 1)
 receiver_bit without = inr refl
