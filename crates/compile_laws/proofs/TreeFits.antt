@@ -2,14 +2,14 @@
 use Rattle.std.proofs.Common.{◌≡◌, ℕ, suc, ◌+◌, ◌-◌, ◌*◌, ◌≤◌, ◌<◌, ◌⊎◌, inl, inr, Bool, true, false, cond, refl, sym, subst, ap, ◌∙◌, arith, List, [], ◌∷◌, length, Option, Some, None}
 use Rattle.std.specs.Prelude.{⊤, codes, IsTrue}
 use Rattle.ruby_tree.specs.Names.{Bytes}
-use Rattle.ruby_tree.specs.Tree.{Goal, to_local, to_instance, to_global, to_constant, Tree, at, Form, nil_value, true_value, false_value, integer, symbol, text, self_value, file_name, folder_name, line_number, local, instance, global, joined, array, hash, range, constant_path, assign, assign_all, assign_attribute, assign_index, operate_attribute, or_attribute, and_attribute, operate_index, or_index, and_index, send, safe_send, yield, super, bare_super, bare_raise, statements, both, either, negated, if_else, while_loop, case_of, case_tests, return_with, break_with, next_with, retry, rescue, ensure, rescue_sequence, ensure_sequence, method, class, module_named, body, Trees, no_more, more, Other, without, with, Pairs, no_pair, pair, Pieces, no_piece, plain_piece, code_piece, Whens, no_when, when, Rescues, no_clause, clause, Params, no_param, required, optional, rest_param, block_param}
+use Rattle.ruby_tree.specs.Tree.{Goal, to_local, to_instance, to_global, to_constant, Tree, at, nil_value, true_value, false_value, integer, symbol, text, self_value, file_name, folder_name, line_number, local, instance, global, joined, array, hash, range, constant_path, assign, assign_all, assign_attribute, assign_index, operate_attribute, or_attribute, and_attribute, operate_index, or_index, and_index, send, safe_send, yield, super, bare_super, bare_raise, statements, both, either, negated, if_else, while_loop, case_of, case_tests, return_with, break_with, next_with, retry, rescue, ensure, rescue_sequence, ensure_sequence, method, class, module_named, body, Trees, no_more, more, Other, without, with, Pairs, no_pair, pair, Pieces, no_piece, plain_piece, code_piece, Whens, no_when, when, Rescues, no_clause, clause, Params, no_param, required, optional, rest_param, block_param}
 use Rattle.iseq_types.specs.declared.instructions.Instr.{Instr}
 use Rattle.iseq_types.specs.declared.instructions.Instr.TheVariants.{Pop, Dup, SetN, AdjustStack, PutNil, Send, InvokeSuper, Jump, BranchIf, BranchUnless, BranchNil, Throw, Leave}
 use Rattle.iseq_types.specs.declared.sequences.CatchKind.TheVariants as catches
 use Rattle.iseq_types.specs.Instructions.{block_values, needs_of, takes_of, leaves_of, depth_after, target_of, goes_on}
 use Rattle.ruby_meaning.specs.Locals.{params_of, names_of_params}
 use Rattle.code_meaning.specs.Code.{Shape, done, op, ahead, part, held, size}
-use Rattle.compile_table.specs.Shapes.{Where, looped, number_of, count, count_pairs, count_pieces, set_goal, sets, gets, named, is_self_form, self_flag, receiver_flag, value_flag, bare_flag, plain_send, with_literal, branch_by, throw_by, set_by_send, or_set, attribute_read, index_read, turns, own, start, line_at, shape, params_shape, all_shape, rest_shape, args_shape, pairs_shape, pieces_shape, path_shape, receiver_shape, value_shape, other_shape, last_shape, values_shape, patterns_shape, pattern_shape, cases_shape, tests_shape, test_shape, hits_shape, clauses_shape, clause_shape, classes_shape, bodies_shape}
+use Rattle.compile_table.specs.Shapes.{Where, looped, number_of, count, count_pairs, count_pieces, set_goal, sets, gets, named, self_flag, receiver_flag, value_flag, bare_flag, plain_send, with_literal, branch_by, throw_by, set_by_send, or_set, attribute_read, index_read, turns, own, start, line_at, shape, params_shape, all_shape, rest_shape, args_shape, pairs_shape, pieces_shape, path_shape, receiver_shape, value_shape, other_shape, last_shape, values_shape, patterns_shape, pattern_shape, cases_shape, tests_shape, test_shape, hits_shape, clauses_shape, clause_shape, classes_shape, bodies_shape}
 use Rattle.tree_laws.specs.Formed.{IsFormed, IsBody, IsRescuePart, IsEnsurePart, TreesFormed, OtherFormed, PairsFormed, PiecesFormed, WhensFormed, ClausesFormed, ParamsFormed}
 use Rattle.compile_laws.proofs.Does.{self_bit}
 use Rattle.compile_laws.proofs.ShapeDepths.{begins, past, leaps_jump, leaps_if, leaps_unless, leaps_nil, Leaps, look, Fits, Fit}
