@@ -27,9 +27,6 @@ use Rattle.compile_laws.proofs.FineTrees.{Children, body_fine, rescue_part_fine,
 use Rattle.compile_laws.proofs.FineSequences.{HasOperands, has_operands}
 use Rattle.compile_laws.proofs.HomedLocals.{Homed, held_at, params_counted, params_are_locals}
 
-kinds_differ : {X : Type 0} → kinds.Rescue ≡ kinds.Ensure → X
-kinds_differ e = absurd cc
-
 module _ (rows : List IndexRow) (index : AreIndexRows rows) where
   -- the index has this row for the sequence
   abbrev pub HasRow : Compiled → Type 0
