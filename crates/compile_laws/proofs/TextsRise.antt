@@ -1,6 +1,6 @@
 -- Of a text's program: the rescue parts of its sequences rise, and each sequence has a number above that of the one around it.
-use Rattle.std.proofs.Common.{◌≡◌, ℕ, zero, suc, ◌≤◌, ◌<◌, true, List, [], ◌∷◌, map, length, get_or, slice_get, All, Some, unwrap_or, nat_eq, refl, sym, ap, subst, arith}
-use Rattle.std.specs.List.{AllByRecursion, IsDistinct}
+use Rattle.std.proofs.Common.{◌≡◌, ℕ, zero, suc, ◌≤◌, ◌<◌, true, List, [], ◌∷◌, map, length, get_or, slice_get, All, Some, unwrap_or, refl, sym, ap, subst, arith}
+use Rattle.std.specs.List.{AllByRecursion}
 use Rattle.std.proofs.lemmas.List.Elements.{All-from_recursion}
 use Rattle.ruby_lexer.specs.Bytes.{Bytes as Source}
 use Rattle.ruby_tree.specs.Names.{Bytes}
@@ -9,7 +9,7 @@ use Rattle.ruby_tree.specs.Reading.{Reads}
 use Rattle.iseq_types.specs.declared.sequences.IndexRow.{IndexRow}
 use Rattle.iseq_types.specs.Index.{IsIndexRow, AreIndexRows}
 use Rattle.iseq_types.specs.Sound.{IsOrdered}
-use Rattle.ruby_meaning.specs.Sequences.{places, count_below, sequence_number}
+use Rattle.ruby_meaning.specs.Sequences.{places}
 use Rattle.code_meaning.specs.Code.{finish}
 use Rattle.compile_table.specs.Order.{are_in_order}
 use Rattle.compile_table.specs.Shapes.{shape}
