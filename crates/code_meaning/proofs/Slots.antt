@@ -1,30 +1,23 @@
 -- The slot at the level finds what the name finds outward.
-use Rattle.std.proofs.Common.{◌≡◌, ℕ, zero, suc, ◌≤◌, ◌++◌, arith, Bool, true, false, cond, ◌||◌, refl, sym, ◌∙◌, subst, ap, List, [], ◌∷◌, length, length-append, Option, Some, None}
+use Rattle.std.proofs.Common.{◌≡◌, ℕ, zero, suc, ◌≤◌, arith, Bool, true, false, cond, ◌||◌, refl, sym, ◌∙◌, subst, ap, List, [], ◌∷◌, length, Option, Some, None}
 use Rattle.std.specs.Prelude.{slice_get}
 use Rattle.std.proofs.lemmas.Bool.Decides.{Decides-eqb}
 use Rattle.std.proofs.lemmas.Slice.Eq.{slice_eq-Decides}
-use Rattle.std.proofs.lemmas.Option.{same_Some, none-some}
+use Rattle.std.proofs.lemmas.Option.{same_Some}
 use Rattle.ruby_lexer.specs.Bytes.{same, is_in}
 use Rattle.ruby_tree.specs.Names.{Bytes}
 use Rattle.ruby_meaning.specs.Value.{Value}
-use Rattle.ruby_meaning.specs.Store.{named, has_name, with_name}
+use Rattle.ruby_meaning.specs.Store.{named, with_name}
 use Rattle.ruby_meaning.specs.World.{Environment, World, Frame}
-use Rattle.ruby_meaning.specs.Calls.{or_nil, with_environment, next_environment}
+use Rattle.ruby_meaning.specs.Calls.{or_nil}
 use Rattle.ruby_meaning.specs.Definitions.{found_local, parent_in, or_zero, local_in, holder_in, read_local, with_local_set, set_local_in, set_local}
-use Rattle.ruby_meaning.specs.Laws.{names_in, EnvironmentsStay, Leads}
+use Rattle.ruby_meaning.specs.Laws.{names_in}
 use Rattle.ruby_meaning.specs.Levels.{Scopes, is_held, level_of, slot_in, slot_of}
-use Rattle.ruby_meaning.proofs.Leading.{leads_environment}
-use Rattle.code_meaning.specs.Slots.{parent_of, outward, value_at, value_in, read_slot, with_value_at, with_slot_set, set_slot_in, set_slot, HaveNames, HasScopes}
+use Rattle.ruby_meaning.specs.InSight.{HaveNames, HasScopes}
+use Rattle.ruby_meaning.proofs.LocalNames.{has_in}
+use Rattle.code_meaning.specs.Slots.{parent_of, outward, value_at, value_in, read_slot, with_value_at, with_slot_set, set_slot_in, set_slot}
 
 -- In one environment.
-
-either_if : (t u v : Bool) → u ≡ v → cond t true u ≡ (t || v)
-either_if true u v e = refl
-either_if false u v e = e
-
-has_in : (x : Bytes) (bs : List (Bytes × Value)) → has_name x bs ≡ is_in x (names_in bs)
-has_in x [] = refl
-has_in x (b ∷ bs) = either_if (same x b.0) (has_name x bs) (is_in x (names_in bs)) (has_in x bs)
 
 value_if : (x : Bytes) (b : Bytes × Value) (bs : List (Bytes × Value)) (t : Bool) → (is_in x (names_in bs) ≡ true → or_nil (named x bs) ≡ value_at (slot_in x (names_in bs)) bs) → t || is_in x (names_in bs) ≡ true
     → or_nil (cond t (Some b.1) (named x bs)) ≡ value_at (cond t 0 (suc (slot_in x (names_in bs)))) (b ∷ bs)
@@ -158,44 +151,3 @@ slot_set scopes x frame v w h held =
     let f = found_by scopes x frame w h held in
     ap (λ o. set_slot_in (slot_of x scopes) v o w) f.level ∙ ap (λ k. set_slot_in k v (Some f.place) w) f.slot
     ∙ ap (λ all. record w { environments = all }) (sym (set_there w.environments f.place x v f.it f.there f.has)) ∙ ap (λ o. set_local_in x v o w) (sym f.holds)
-
--- The names stay.
-
--- what stands has its parent and its names; more may stand behind it
-stays_at : (all after : List Environment) (n : ℕ) (e : Environment) → EnvironmentsStay all after → slice_get all n ≡ Some e
-    → (d : Environment) × (slice_get after n ≡ Some d) × (d.parent ≡ e.parent) × (names_in d.locals ≡ names_in e.locals)
-stays_at [] after n e h there = absurd (none-some e there)
-stays_at (c ∷ all) [] n e h there = absurd h
-stays_at (c ∷ all) (d ∷ after) zero e h there = (d, refl, h.0 ∙ ap (λ y. y.parent) (same_Some c e there), h.1 ∙ ap (λ y. names_in y.locals) (same_Some c e there))
-stays_at (c ∷ all) (d ∷ after) (suc n) e h there = stays_at all after n e h.2 there
-
-have_more : (below more : ℕ) (scopes : Scopes) (all after : List Environment) (p : Option ℕ) → below ≤ more → EnvironmentsStay all after → HaveNames below scopes all p → HaveNames more scopes after p
-have_more below more [] all after p le stay h = tt
-have_more below more (names ∷ scopes) all after None le stay h = h
-have_more below more (names ∷ scopes) all after (Some n) le stay h =
-    let d = stays_at all after n h.1 stay h.2 in
-    (omega (arith, le, h.0), d.0, d.1, d.3 ∙ h.3, subst (λ q. HaveNames n scopes after q) (sym d.2) (have_more n n scopes all after h.1.parent (omega arith) stay h.4))
-
-pub scopes_stay : (scopes : Scopes) (frame e : Frame) (w z : World) → HasScopes scopes frame w → Leads e w z → HasScopes scopes frame z
-scopes_stay scopes frame e w z h l = have_more (length w.environments) (length z.environments) scopes w.environments z.environments (Some frame.environment) l.environments l.stay h
-
-pushed_there : (all : List Environment) (e : Environment) → slice_get (all ++ e ∷ []) (length all) ≡ Some e
-pushed_there [] e = refl
-pushed_there (d ∷ all) e = pushed_there all e
-
-open_around : (scopes : Scopes) (parent : Option ℕ) (locals : List (Bytes × Value)) (frame : Frame) (w : World) → HaveNames (length w.environments) scopes w.environments parent
-    → HaveNames (length w.environments) scopes (with_environment parent locals w).environments parent
-open_around [] parent locals frame w h = tt
-open_around (names ∷ scopes) None locals frame w h = h
-open_around (names ∷ scopes) (Some n) locals frame w h =
-    have_more (length w.environments) (length w.environments) (names ∷ scopes) w.environments (with_environment (Some n) locals w).environments (Some n) (omega arith)
-    (leads_environment frame w (record { parent = Some n; locals = locals }) (λ lt s. h.0)).stay h
-
--- an environment that is opened has its names before those of its parent
-pub scopes_open : (scopes : Scopes) (parent : Option ℕ) (locals : List (Bytes × Value)) (frame : Frame) (w : World) → frame.environment ≡ next_environment w → HaveNames (length w.environments) scopes w.environments parent
-    → HasScopes (names_in locals ∷ scopes) frame (with_environment parent locals w)
-scopes_open scopes parent locals frame w is h =
-    let z : World = with_environment parent locals w in
-    let e : Environment = record { parent = parent; locals = locals } in
-    subst (λ n. HaveNames (length z.environments) (names_in locals ∷ scopes) z.environments (Some n)) (sym is)
-    (omega (arith, length-append w.environments (e ∷ [])), e, pushed_there w.environments e, refl, open_around scopes parent locals frame w h)

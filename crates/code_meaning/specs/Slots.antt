@@ -1,11 +1,9 @@
 -- Locals by slot and level. A level counts environments outward, and a slot is a place in the names of one.
-use Rattle.std.specs.Prelude.{◌≡◌, ◌<◌, ℕ, zero, suc, List, [], ◌∷◌, length, Option, Some, None, slice_get, ⊤}
+use Rattle.std.specs.Prelude.{ℕ, zero, suc, List, [], ◌∷◌, Option, Some, None}
 use Rattle.ruby_tree.specs.Names.{Bytes}
 use Rattle.ruby_meaning.specs.Value.{Value, nil}
 use Rattle.ruby_meaning.specs.World.{Environment, World, Frame}
 use Rattle.ruby_meaning.specs.Definitions.{parent_in}
-use Rattle.ruby_meaning.specs.Laws.{names_in}
-use Rattle.ruby_meaning.specs.Levels.{Scopes}
 
 abbrev pub parent_of : Option Environment → Option ℕ
 parent_of None = None
@@ -52,13 +50,3 @@ set_slot_in slot v (Some n) w = record w { environments = with_slot_set w.enviro
 
 abbrev pub set_slot : Frame → ℕ → ℕ → Value → World → World
 set_slot frame slot level v w = set_slot_in slot v (home frame level w) w
-
--- The environments outward of this one, each below the one before, have these names.
-abbrev pub HaveNames : ℕ → Scopes → List Environment → Option ℕ → Type 0
-HaveNames below [] all p = ⊤
-HaveNames below (xs ∷ scopes) all None = ⊥
-HaveNames below (xs ∷ scopes) all (Some n) = (n < below) × (e : Environment) × (slice_get all n ≡ Some e) × (names_in e.locals ≡ xs) × HaveNames n scopes all e.parent
-
--- The frame's environments have these names.
-abbrev pub HasScopes : Scopes → Frame → World → Type 0
-HasScopes scopes frame w = HaveNames (length w.environments) scopes w.environments (Some frame.environment)

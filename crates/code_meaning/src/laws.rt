@@ -1,19 +1,17 @@
 //! What holds of code and of its running, over the definitions alone.
-ghost use Rattle.std.specs.Prelude.{◌≡◌, ℕ, true, List, [], ◌∷◌, length, Option};
+ghost use Rattle.std.specs.Prelude.{◌≡◌, ℕ, true, List, [], ◌∷◌};
 ghost use Rattle.iseq_types.specs.declared.sequences.CatchRow.{CatchRow};
 ghost use Rattle.ruby_tree.specs.Names.{Bytes};
 ghost use Rattle.ruby_tree.specs.Tree.{Tree};
 ghost use Rattle.ruby_meaning.specs.Value.{Value};
 ghost use Rattle.ruby_meaning.specs.World.{World, Frame, Outcome, Run};
-ghost use Rattle.ruby_meaning.specs.Calls.{with_environment, next_environment};
 ghost use Rattle.ruby_meaning.specs.Definitions.{read_local, set_local};
 ghost use Rattle.ruby_meaning.specs.Files.{Files};
-ghost use Rattle.ruby_meaning.specs.Laws.{names_in};
-ghost use Rattle.ruby_meaning.specs.Laws as laws_of_runs;
 ghost use Rattle.ruby_meaning.specs.Levels.{Scopes, is_held, level_of, slot_of};
+ghost use Rattle.ruby_meaning.specs.InSight.{HasScopes};
 ghost use Rattle.code_meaning.specs.Code.{Routine, Shape, finish, lines_of, rows_of, rows_at, Placed, Rising};
 ghost use Rattle.code_meaning.specs.Machine.{goes, pends, pends_behind, ends, stuck, meet, step, Runs, Follows, Met};
-ghost use Rattle.code_meaning.specs.Slots.{read_slot, set_slot, HaveNames, HasScopes};
+ghost use Rattle.code_meaning.specs.Slots.{read_slot, set_slot};
 ghost use Rattle.code_meaning.specs.Frames.{State, Turn, Turns, Leads};
 
 /// Code stands in its own lines, and the rows that hold its places are its own; and the rows stand
@@ -45,8 +43,8 @@ pub fn runs_go_by_steps()
 /// Each turn of a machine with a list of frames keeps the outcome that its state leads to, and so do
 /// any number of turns.
 pub fn turns_keep_the_outcome()
-    ensures one { (files : Files) (b : Tree → Frame → Run) (seqs : ℕ → Routine) (bodies : ℕ → Tree) (s s1 : State) (o : Outcome) → Turn files b seqs bodies s s1 → Leads files b seqs bodies s o → Leads files b seqs bodies s1 o }
-    ensures all { (files : Files) (b : Tree → Frame → Run) (seqs : ℕ → Routine) (bodies : ℕ → Tree) (s s1 : State) (o : Outcome) → Turns files b seqs bodies s s1 → Leads files b seqs bodies s o → Leads files b seqs bodies s1 o }
+    ensures one { (files : Files) (b : Tree → Frame → Run) (s s1 : State) (o : Outcome) → Turn files b s s1 → Leads files b s o → Leads files b s1 o }
+    ensures all { (files : Files) (b : Tree → Frame → Run) (s s1 : State) (o : Outcome) → Turns files b s s1 → Leads files b s o → Leads files b s1 o }
 {}
 
 /// Where the environments outward have these names, the slot at a local's level is what its name finds:
@@ -54,11 +52,4 @@ pub fn turns_keep_the_outcome()
 pub fn slots_are_locals()
     ensures read { (scopes : Scopes) (x : Bytes) (frame : Frame) (w : World) → HasScopes scopes frame w → is_held x scopes ≡ true → read_slot frame (slot_of x scopes) (level_of x scopes) w ≡ read_local frame x w }
     ensures set { (scopes : Scopes) (x : Bytes) (frame : Frame) (v : Value) (w : World) → HasScopes scopes frame w → is_held x scopes ≡ true → set_slot frame (slot_of x scopes) (level_of x scopes) v w ≡ set_local frame x v w }
-{}
-
-/// The environments outward keep their names through a whole evaluation, and one that is opened has
-/// its own before those of its parent.
-pub fn scopes_are_kept()
-    ensures stay { (scopes : Scopes) (frame e : Frame) (w z : World) → HasScopes scopes frame w → laws_of_runs.Leads e w z → HasScopes scopes frame z }
-    ensures opened { (scopes : Scopes) (parent : Option ℕ) (locals : List (Bytes × Value)) (frame : Frame) (w : World) → frame.environment ≡ next_environment w → HaveNames (length w.environments) scopes w.environments parent → HasScopes (names_in locals ∷ scopes) frame (with_environment parent locals w) }
 {}

@@ -12,9 +12,9 @@ use Rattle.ruby_meaning.specs.Definitions.{set_local}
 use Rattle.ruby_meaning.specs.Evaluation.{run, run_defaults, evaluate}
 use Rattle.ruby_meaning.proofs.Fixed.{evaluation_is_fixed}
 use Rattle.code_meaning.specs.Code.{Routine, Shape, done, op, part, finish, Placed}
-use Rattle.code_meaning.specs.Slots.{HasScopes}
+use Rattle.ruby_meaning.specs.InSight.{HasScopes}
 use Rattle.code_meaning.specs.Machine.{goes, Runs}
-use Rattle.code_meaning.specs.Frames.{running, returning, Turns}
+use Rattle.code_meaning.specs.Frames.{Tables, running, returning, Turns}
 use Rattle.code_meaning.proofs.Placing.{placed}
 use Rattle.code_meaning.proofs.Frames.{turns_keep}
 use Rattle.compile_table.specs.Shapes as table
@@ -92,8 +92,8 @@ module _ (files : Files) (seqs : ℕ → Routine) (bodies : ℕ → Tree) where
       → Runs files (evaluate files) seqs bodies (body_routine l kind name t) frame (start_of l t frame.given) [] w (evaluate files t frame w)
   body_runs (at s f) l kind name frame w no_loop plain sd names fs out = form_runs f l kind name s frame w no_loop plain sd names fs out
 
-  -- a machine that begins with a body, and comes to an outcome, comes to what the body means
-  pub machine_ends : (t : Tree) (l : Where) (kind : SeqKind) (name : Bytes) (frame : Frame) (w : World) (o : Outcome) → l.loop ≡ false → l.clause ≡ false → StandsIn l frame → HasScopes l.sight.scopes frame w → FindsBody seqs bodies l t → frame.in_loop ≡ false
-      → Turns files (evaluate files) seqs bodies (running (body_routine l kind name t) frame (start_of l t frame.given) [] w []) (returning o []) → o ≡ evaluate files t frame w
-  machine_ends t l kind name frame w o no_loop plain sd names fs out ts =
-      turns_keep files (evaluate files) seqs bodies ts (evaluate files t frame w) (evaluate files t frame w, body_runs t l kind name frame w no_loop plain sd names fs out, refl)
+-- a machine that begins with a body, and comes to an outcome, comes to what the body means
+pub machine_ends : (files : Files) (unit : Tables) (t : Tree) (l : Where) (kind : SeqKind) (name : Bytes) (frame : Frame) (w : World) (o : Outcome) → l.loop ≡ false → l.clause ≡ false → StandsIn l frame → HasScopes l.sight.scopes frame w → FindsBody unit.seqs unit.bodies l t → frame.in_loop ≡ false
+    → Turns files (evaluate files) (running unit (body_routine l kind name t) frame (start_of l t frame.given) [] w []) (returning o []) → o ≡ evaluate files t frame w
+machine_ends files unit t l kind name frame w o no_loop plain sd names fs out ts =
+    turns_keep files (evaluate files) ts (evaluate files t frame w) (evaluate files t frame w, body_runs files unit.seqs unit.bodies t l kind name frame w no_loop plain sd names fs out, refl)

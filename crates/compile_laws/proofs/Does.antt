@@ -28,7 +28,8 @@ use Rattle.ruby_meaning.specs.Levels.{Scopes, AllHeld, GoalHeld, GoalsHeld, Name
 use Rattle.ruby_meaning.specs.Parts.{parts_of, piece_found, piece_of, make_joined, make_array, make_hash, make_range, of_values, leave_home, leave_block, leave_loop, given_value, match_found, match_class, handling, in_sequence}
 use Rattle.ruby_meaning.specs.Evaluation.{run_patterns, run_whens, run_any, run_tests, unless_nil, run_pairs, run_pieces, set_by_send, loop, set_exception, with_block, send_with, super_with, super_to, run, run_form, run_all, run_trees, run_other, run_last, run_receiver, run_given_value, run_clauses, run_clause, run_classes}
 use Rattle.code_meaning.specs.Code.{at_line, Routine, rows_at, Shape, done, op, ahead, part, size, Placed, finish}
-use Rattle.code_meaning.specs.Slots.{read_slot, set_slot, HaveNames}
+use Rattle.code_meaning.specs.Slots.{read_slot, set_slot}
+use Rattle.ruby_meaning.specs.InSight.{HaveNames}
 use Rattle.code_meaning.specs.Machine.{first_values, is_nil, pairs_of, Step, goes, pends, answer, drops, branch, with_value, with_args, with_top, call_answer, is_valued, is_bare, literal_given, value_given, sent, super_to_method, super_sent, act, step, rescue_frame, ensure_frame, entered_in, entered_at, Runs, Follows}
 use Rattle.code_meaning.proofs.Sizes.{finish_size}
 use Rattle.code_meaning.proofs.Placing.{placed}

@@ -8,22 +8,34 @@ use Rattle.iseq_types.specs.declared.sequences.SeqKind.{SeqKind}
 use Rattle.iseq_types.specs.declared.sequences.SeqKind.TheVariants as kinds
 use Rattle.ruby_meaning.specs.Locals.{place_of, first_line_of}
 use Rattle.ruby_meaning.specs.Sequences.{places, form_places, trees_places, other_places, pairs_places, pieces_places, whens_places, clauses_places, params_places, sequence_number}
-use Rattle.ruby_meaning.specs.Levels.{Sight, IsHoused, FormHoused, BlockHoused, TreesHoused, OtherHoused, PairsHoused, PiecesHoused, WhensHoused, ClausesHoused, ParamsHoused}
+use Rattle.ruby_meaning.specs.Levels.{Sight, body_sight, IsHoused, FormHoused, BlockHoused, TreesHoused, OtherHoused, PairsHoused, PiecesHoused, WhensHoused, ClausesHoused, ParamsHoused}
 use Rattle.code_meaning.specs.Code.{Routine}
 use Rattle.compile_table.specs.Shapes.{Where, looped, in_rescue, in_ensure}
 use Rattle.compile_table.specs.Sequences.{Compiled, routine_of, compiled_body, compiled_part, in_body, in_block, sequences, form_sequences, block_sequences, trees_sequences, other_sequences, pairs_sequences, pieces_sequences, whens_sequences, clauses_sequences, params_sequences}
 use Rattle.tree_laws.specs.Formed.{HasOneBlock, IsFormed, FormFormed, IsBody, IsBodyForm, BlockFormed, IsRescueForm, IsEnsureForm, TreesFormed, OtherFormed, PairsFormed, PiecesFormed, WhensFormed, ClausesFormed, ParamsFormed}
 use Rattle.compile_laws.specs.Finds.{part_routine, Finds, FindsForm, FindsTrees, FindsOther, FindsPairs, FindsPieces, FindsWhens, FindsRescueForm, FindsEnsureForm, FindsClauses, FindsParams, FindsBlock}
-use Rattle.compile_laws.specs.Found.{IsBodyKind, sight_in, IsFoundBody}
+use Rattle.compile_laws.specs.Found.{IsBodyKind, sight_in, where_in, IsFoundBody}
 use Rattle.compile_laws.proofs.ByPlaces.{spots}
 
--- The tables of a program: its sequences, their trees and what is in sight in them, by number; and the file's tree.
-module _ (seqs : ℕ → Routine) (bodies : ℕ → Tree) (sights : ℕ → Sight) (file : Tree) where
+-- The nodes of a body stand where its kind, the file and what is in sight around it say.
+same_where : (path : Bytes) (t : Tree) (kind : SeqKind) (l k : Where) (u : Tree) → IsBodyKind kind → l.path ≡ k.path → l.places ≡ k.places → l.sight ≡ k.sight → where_in path t kind l u ≡ where_in path t kind k u
+same_where path t kinds.File l k u is e f g = refl
+same_where path t kinds.Method l k u is e f g =
+    ap₂ (λ (z : Bytes) (q : List ℕ). let w : Where = record { loop = false; clause = false; number = sequence_number q (place_of u); first = first_line_of u; sight = body_sight u; path = z; places = q } in w) e f
+same_where path t kinds.Class l k u is e f g =
+    ap₂ (λ (z : Bytes) (q : List ℕ). let w : Where = record { loop = false; clause = false; number = sequence_number q (place_of u); first = first_line_of u; sight = body_sight u; path = z; places = q } in w) e f
+same_where path t kinds.Block l k u is e f g =
+    ap₂ (λ (z : Bytes) (q : List ℕ). in_block (record l { path = z; places = q }) u) e f ∙ ap (λ (c : Sight). in_block (record l { path = k.path; places = k.places; sight = c }) u) g
+same_where path t kinds.Rescue l k u is e f g = absurd is
+same_where path t kinds.Ensure l k u is e f g = absurd is
+
+-- The tables of a program: its sequences, their trees and where their nodes stand, by number; and the file's path and tree.
+module _ (seqs : ℕ → Routine) (bodies : ℕ → Tree) (wheres : ℕ → Where) (home : Bytes) (file : Tree) where
   -- Of a file whose sequences have these places, the tables have this one under its number.
   pub record HasSequence (q : List ℕ) (c : Compiled) : Type 0 where
     pub routine : seqs (sequence_number q c.place) ≡ routine_of c
     pub tree : bodies (sequence_number q c.place) ≡ c.tree
-    pub sight : sights (sequence_number q c.place) ≡ c.inner.sight
+    pub inner : wheres (sequence_number q c.place) ≡ c.inner
 
   -- the tables have each of these sequences
   abbrev pub Have : List ℕ → List Compiled → Type 0
@@ -35,7 +47,8 @@ module _ (seqs : ℕ → Routine) (bodies : ℕ → Tree) (sights : ℕ → Sigh
     pub place : place_of c.tree ≡ c.place
     pub path : c.inner.path ≡ z
     pub places : c.inner.places ≡ q
-    pub sees : c.inner.sight ≡ sight_in file c.kind (sights c.parent) c.tree
+    pub sees : c.inner.sight ≡ sight_in file c.kind (wheres c.parent).sight c.tree
+    pub stands : IsBodyKind c.kind → c.inner ≡ where_in home file c.kind (wheres c.parent) c.tree
     pub body : IsBodyKind c.kind → IsFoundBody seqs bodies c
 
   abbrev pub Known : Bytes → List ℕ → List Compiled → Type 0
@@ -49,6 +62,7 @@ module _ (seqs : ℕ → Routine) (bodies : ℕ → Tree) (sights : ℕ → Sigh
     first : inner.first ≡ first_line_of t
     in_sight : inner.sight.body ≡ t
     sees : inner.sight ≡ sight_in file kind l.sight t
+    stands : inner ≡ where_in home file kind l t
 
   -- where a rescue or an ensure part stands
   record Parts (l inner : Where) (kind : SeqKind) (s : SourcePosition) (f : Form) : Type 0 where
@@ -56,9 +70,12 @@ module _ (seqs : ℕ → Routine) (bodies : ℕ → Tree) (sights : ℕ → Sigh
     number : inner.number ≡ sequence_number inner.places s.place
     sees : inner.sight ≡ sight_in file kind l.sight (at s f)
 
-  -- the tables have what is in sight in the sequence of this place
+  -- The tables have what is in sight in the sequence of this place, and its file.
   abbrev pub Sees : Where → Type 0
-  Sees l = sights l.number ≡ l.sight
+  Sees l = ((wheres l.number).sight ≡ l.sight) × ((wheres l.number).path ≡ l.path) × ((wheres l.number).places ≡ l.places)
+
+  seen_at : (l : Where) → wheres l.number ≡ l → Sees l
+  seen_at l e = (ap (λ (k : Where). k.sight) e, ap (λ (k : Where). k.path) e, ap (λ (k : Where). k.places) e)
 
   -- What is told of the sequences of a part: their places, and that a fact holds where the tables have them and what is in sight around them.
   pub record Told (z : Bytes) (q : List ℕ) (S A : Type 0) (cs : List Compiled) (places : List ℕ) : Type 0 where
@@ -100,7 +117,7 @@ module _ (seqs : ℕ → Routine) (bodies : ℕ → Tree) (sights : ℕ → Sigh
       → Told inner.path inner.places (Sees l) (bodies (sequence_number inner.places s.place) ≡ at s (body ps t)) (compiled_body l inner kind x (at s (body ps t)) ∷ sequences inner (at s (body ps t))) (places (at s (body ps t)))
   begun s ps t l inner kind x o a = record {
     same = ap (λ n. s.place ∷ n) a.same;
-    holds = λ e h. let r = a.holds (ap sights o.number ∙ h.0.sight) h.1 in (
+    holds = λ e h. let r = a.holds (seen_at inner (ap wheres o.number ∙ h.0.inner)) h.1 in (
       h.0.tree,
       (
         record {
@@ -108,7 +125,8 @@ module _ (seqs : ℕ → Routine) (bodies : ℕ → Tree) (sights : ℕ → Sigh
           place = refl;
           path = refl;
           places = refl;
-          sees = o.sees ∙ ap (λ c. sight_in file kind c (at s (body ps t))) (sym e);
+          sees = o.sees ∙ ap (λ c. sight_in file kind c (at s (body ps t))) (sym e.0);
+          stands = λ k. o.stands ∙ same_where home file kind l (wheres l.number) (at s (body ps t)) k (sym e.1) (sym e.2) (sym e.0);
           body = λ k. record { routine = refl; no_loop = o.no_loop; no_clause = o.no_clause; first = o.first; in_sight = o.in_sight; finds = r.0 };
         },
         r.1,
@@ -121,7 +139,7 @@ module _ (seqs : ℕ → Routine) (bodies : ℕ → Tree) (sights : ℕ → Sigh
       → Told inner.path inner.places (Sees l) ((seqs (sequence_number inner.places s.place) ≡ part_routine inner kind (at s f)) × A) (compiled_part l inner kind (at s f) ∷ sequences inner (at s f)) (s.place ∷ ps)
   parted s f l inner kind o a = record {
     same = ap (λ n. s.place ∷ n) a.same;
-    holds = λ e h. let r = a.holds (ap sights o.number ∙ h.0.sight) h.1 in (
+    holds = λ e h. let r = a.holds (seen_at inner (ap wheres o.number ∙ h.0.inner)) h.1 in (
       (h.0.routine, r.0),
       (
         record {
@@ -129,7 +147,8 @@ module _ (seqs : ℕ → Routine) (bodies : ℕ → Tree) (sights : ℕ → Sigh
           place = refl;
           path = refl;
           places = refl;
-          sees = o.sees ∙ ap (λ c. sight_in file kind c (at s f)) (sym e);
+          sees = o.sees ∙ ap (λ c. sight_in file kind c (at s f)) (sym e.0);
+          stands = λ k. absurd (o.no_body k);
           body = λ k. absurd (o.no_body k);
         },
         r.1,
@@ -138,13 +157,13 @@ module _ (seqs : ℕ → Routine) (bodies : ℕ → Tree) (sights : ℕ → Sigh
   }
 
   method_opens : (l : Where) (t : Tree) → Opens l (in_body l t) kinds.Method t
-  method_opens l t = record { no_loop = refl; no_clause = refl; number = refl; first = refl; in_sight = refl; sees = refl }
+  method_opens l t = record { no_loop = refl; no_clause = refl; number = refl; first = refl; in_sight = refl; sees = refl; stands = refl }
 
   class_opens : (l : Where) (t : Tree) → Opens l (in_body l t) kinds.Class t
-  class_opens l t = record { no_loop = refl; no_clause = refl; number = refl; first = refl; in_sight = refl; sees = refl }
+  class_opens l t = record { no_loop = refl; no_clause = refl; number = refl; first = refl; in_sight = refl; sees = refl; stands = refl }
 
   block_opens : (l : Where) (t : Tree) → Opens l (in_block l t) kinds.Block t
-  block_opens l t = record { no_loop = refl; no_clause = refl; number = refl; first = refl; in_sight = refl; sees = refl }
+  block_opens l t = record { no_loop = refl; no_clause = refl; number = refl; first = refl; in_sight = refl; sees = refl; stands = refl }
 
   rescue_parts : (l : Where) (s : SourcePosition) (f : Form) → Parts l (in_rescue l (at s f)) kinds.Rescue s f
   rescue_parts l s f = record { no_body = λ k. k; number = refl; sees = refl }

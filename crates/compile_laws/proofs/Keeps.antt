@@ -20,7 +20,7 @@ use Rattle.ruby_meaning.proofs.StepsOfLoads.{same_call}
 use Rattle.ruby_meaning.proofs.StepsOfParts.{same_set_goal, same_path_from, same_string, same_piece, same_values}
 use Rattle.ruby_meaning.proofs.Same.{Same, same_respects}
 use Rattle.ruby_meaning.proofs.Fixed.{evaluates, evaluation_is_fixed, evaluated}
-use Rattle.code_meaning.specs.Slots.{HaveNames, HasScopes}
+use Rattle.ruby_meaning.specs.InSight.{HaveNames, HasScopes}
 use Rattle.code_meaning.proofs.Slots.{slot_read, slot_set}
 use Rattle.compile_laws.proofs.Ready.{Ready, KeepsReady}
 use Rattle.compile_laws.proofs.Does.{Known}

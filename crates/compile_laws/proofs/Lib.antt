@@ -34,3 +34,9 @@ pub mod Inside
 pub mod NestedRise
 pub mod NumberedSequences
 pub mod TextsRise
+pub mod Enters
+pub mod CallsCome
+pub mod ClassesCome
+pub mod StepsCome
+pub mod FramesBegin
+pub mod FrameTurns

@@ -2,7 +2,7 @@
 use Rattle.std.proofs.Common.{ℕ, ◌≤◌, arith, List}
 use Rattle.ruby_tree.specs.Names.{Bytes}
 use Rattle.ruby_meaning.specs.World.{World, Frame, Run, world_of}
-use Rattle.code_meaning.specs.Slots.{HasScopes}
+use Rattle.ruby_meaning.specs.InSight.{HasScopes}
 
 pub record Ready (scopes : List (List Bytes)) (frame : Frame) (n : ℕ) (w : World) : Type 0 where
   pub turns : w.turns ≤ n

@@ -2,11 +2,7 @@
 use Rattle.std.proofs.Common.{Bool, true, subst, sym, ◌≡◌, ℕ, suc, ◌+◌, refl, ap, ◌∙◌, arith, List, [], ◌∷◌, ◌++◌, length}
 use Rattle.ruby_meaning.specs.Value.{Value}
 use Rattle.code_meaning.specs.Machine.{Step, with_args, with_item}
-
--- the values lie on the stack, the last on top
-abbrev pub pushed : List Value → List Value → List Value
-pushed [] st = st
-pushed (v ∷ vs) st = pushed vs (v ∷ st)
+pub use Rattle.compile_laws.specs.Calling.{pushed}
 
 pub pushed_last : (vs : List Value) (v : Value) (st : List Value) → pushed (vs ++ v ∷ []) st ≡ v ∷ pushed vs st
 pushed_last [] v st = refl

@@ -3,6 +3,8 @@
 
 pub mod alike;
 pub mod bodies;
+pub mod calls;
 pub mod found;
+pub mod frames;
 pub mod sound;
 pub mod soundness;

@@ -5,10 +5,13 @@ pub mod EdgeRows
 pub mod DataRow
 pub mod Truths
 pub mod Leading
+pub mod Scopes
 pub mod ClassGraph
 pub mod NativeStores
 pub mod StoreLeading
 pub mod StoredStores
+pub mod StoredWorlds
+pub mod MadeFrames
 pub mod StoredSteps
 pub mod StoredCalls
 pub mod StoredLoads
@@ -18,6 +21,7 @@ pub mod StoredFrames
 pub mod Relation
 pub mod Catching
 pub mod Changes
+pub mod LocalNames
 pub mod StepsOfCalls
 pub mod StepsOfLoads
 pub mod StepsOfParts
@@ -30,6 +34,8 @@ pub mod Longer
 pub mod Start
 pub mod Ends
 pub mod StoredPrograms
+pub mod PlacedFrames
+pub mod StandingWorlds
 pub mod Constructs
 pub mod MoreTurns
 pub mod Plans

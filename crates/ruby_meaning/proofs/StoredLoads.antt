@@ -1,4 +1,4 @@
--- Loads, the natives that need more than the store, and calls as a whole, from a stored world.
+-- Loads, the natives that need more than the store, and calls as a whole, from a good world.
 use Rattle.std.proofs.Common.{map, subst, sym, ◌≡◌, ℕ, Bool, true, false, refl, List, [], ◌∷◌, ◌++◌, length, Option, Some, None}
 use Rattle.std.specs.Prelude.{codes}
 use Rattle.std.proofs.lemmas.Bool.{false≢true}
@@ -21,35 +21,41 @@ use Rattle.ruby_meaning.specs.Natives.Messages.{no_conversion, no_change}
 use Rattle.ruby_meaning.specs.Natives.Reading.{called}
 use Rattle.ruby_meaning.specs.World.{ruby_file, data_file, Given, no_block, Ask, ask_require, ask_relative, ask_load, Step, asked, loaded, World, Frame, Done, Run, text_of, elements_in, path_of, loaded_of}
 use Rattle.ruby_meaning.specs.Steps.{changing, stand}
-use Rattle.ruby_meaning.specs.Calls.{with_step, with_entry, all_nil, next_environment, variable_of}
+use Rattle.ruby_meaning.specs.Calls.{with_step, with_entry, all_nil, variable_of}
 use Rattle.ruby_meaning.specs.NativeAnswer.{NativeAnswer, itself, by_control, native_answer}
 use Rattle.ruby_meaning.specs.Files.{Files, RubyFile, no_ruby, ruby_fault, ruby_tree, DataFile, no_data_file, data_fault, data_value}
 use Rattle.ruby_meaning.specs.Search.{slash, resolve, Resolved, provided, found_at, missing, missing_name}
 use Rattle.ruby_meaning.specs.Loads.{no_such_file, cannot_load, fault_at, file_code, file_frame, next_load, Making, make_datum, make_all, make_pairs, make_layer, data_loaded, with_feature, push_feature, with_loading, while_loading, load_data, run_code, ruby_loaded, load_ruby, after_load, resolved, ask_for}
 use Rattle.ruby_meaning.specs.Invoke.{first_of, second_of, with_text_found, with_text, written_out, first_line, with_line_taken, line_or_nil, get_line, is_given, thrown, throw_if, closure_of, call_closure, load_named, run_control, run_answer, run_native, run_found, run_if_found, call_method, send_to}
 use Rattle.reference_laws.specs.Placed.{IsPlaced}
-use Rattle.ruby_meaning.specs.Stored.{BodyStored, IsStored, ArePlaced, StoredOut}
+use Rattle.ruby_meaning.specs.Levels.{file_sight, IsHoused}
+use Rattle.ruby_meaning.specs.Stored.{IsClass, BodyIs, class_of_place, ArePlaced}
+use Rattle.ruby_meaning.specs.Housed.{AreHoused}
+use Rattle.ruby_meaning.proofs.LocalNames.{names_nil}
 use Rattle.ruby_meaning.proofs.StoreLeading.{store_with_kind}
-use Rattle.ruby_meaning.proofs.StoredStores.{keeps_kind, keeps_thrown}
-use Rattle.ruby_meaning.proofs.StoredSteps.{Known, Keeps, Moves, moves_objects, moves_same, keep_done, keep_raise, keep_then, keep_reading, keep_read, keep_changing, keep_choose, keep_pay, keep_charge, keep_make, keep_make_string, keep_raise_new, keep_between, keep_deeper, returned_out}
-use Rattle.ruby_meaning.proofs.StoredCalls.{Bodies, AnswerFine, native_fine, FoundStored, find_stored, moves_with_entry, keep_opening, keep_counted, keep_set_variable, keep_no_method, answered_out, keep_method, keep_block}
+use Rattle.ruby_meaning.proofs.StoredStores.{GoodCode, keeps_kind, keeps_thrown}
+use Rattle.ruby_meaning.proofs.StoredWorlds.{Good, Moves, moves_objects, moves_same}
+use Rattle.ruby_meaning.proofs.StoredSteps.{Known, GoodOut, Keeps, keep_done, keep_raise, keep_then, keep_reading, keep_read, keep_changing, keep_choose, keep_pay, keep_charge, keep_make, keep_make_string, keep_raise_new, keep_between, keep_deeper, returned_out}
+use Rattle.ruby_meaning.proofs.MadeFrames.{file_fits, file_sees}
+use Rattle.ruby_meaning.proofs.StoredCalls.{Bodies, AnswerFine, native_fine, FoundIs, find_is, moves_with_entry, keep_opening, keep_counted, keep_set_variable, keep_no_method, answered_out, keep_method, keep_block}
 
-moves_written : (t : Bool) (f : Bytes) (w : World) → IsStored w → Moves w (written_out t f w)
-moves_written true f w s = moves_same w (written_out true f w) refl refl s
-moves_written false f w s = moves_same w (written_out false f w) refl refl s
+module _ (asked : Type 0) where
+  moves_written : (t : Bool) (f : Bytes) (w : World) → Good asked w → Moves asked w (written_out t f w)
+  moves_written true f w s = moves_same asked w (written_out true f w) refl refl refl s
+  moves_written false f w s = moves_same asked w (written_out false f w) refl refl refl s
 
-moves_thrown : (p : Option (Bytes × ℕ)) (v : Value) (w : World) → IsStored w → Moves w (thrown p v w)
-moves_thrown p (object n) w s = moves_objects w (thrown p (object n) w) (keeps_thrown p n w.objects) refl s
-moves_thrown p nil w s = moves_same w w refl refl s
-moves_thrown p yes w s = moves_same w w refl refl s
-moves_thrown p no w s = moves_same w w refl refl s
-moves_thrown p (number i) w s = moves_same w w refl refl s
-moves_thrown p (symbol_named x) w s = moves_same w w refl refl s
+  pub moves_thrown : (p : Option (Bytes × ℕ)) (v : Value) (w : World) → Good asked w → Moves asked w (thrown p v w)
+  moves_thrown p (object n) w s = moves_objects asked w (thrown p (object n) w) (keeps_thrown asked p n w.objects) refl refl s
+  moves_thrown p nil w s = moves_same asked w w refl refl refl s
+  moves_thrown p yes w s = moves_same asked w w refl refl refl s
+  moves_thrown p no w s = moves_same asked w w refl refl refl s
+  moves_thrown p (number i) w s = moves_same asked w w refl refl refl s
+  moves_thrown p (symbol_named x) w s = moves_same asked w w refl refl refl s
 
-moves_feature : (n : ℕ) (w : World) → IsStored w → Moves w (with_feature n w)
-moves_feature n w s =
-    let vs : List Value = elements_in (kind_at w.objects features) ++ object n ∷ [] in
-    moves_objects w (with_feature n w) (keeps_kind w.objects features (elements vs) (store_with_kind w.objects features (elements vs) (sym s.other) (λ p h. absurd (false≢true h))) refl) refl s
+  pub moves_feature : (n : ℕ) (w : World) → Good asked w → Moves asked w (with_feature n w)
+  moves_feature n w s =
+      let vs : List Value = elements_in (kind_at w.objects features) ++ object n ∷ [] in
+      moves_objects asked w (with_feature n w) (keeps_kind asked w.objects features (elements vs) (store_with_kind w.objects features (elements vs) (sym s.other) (λ p h. absurd (false≢true h))) refl) refl refl s
 
 module _ (k : Known) (c : Around) where
   -- Data.
@@ -101,16 +107,16 @@ module _ (k : Known) (c : Around) where
   keep_data_loaded frame line path (data_value d) = keep_datum d Done (λ v. keep_done k c v)
 
   keep_step : (x : Step) (go : Run) → Keeps k c go → Keeps k c (changing (with_step x) go)
-  keep_step x go h = keep_changing k c (with_step x) go (λ w p s. moves_same w (with_step x w) refl refl s) h
+  keep_step x go h = keep_changing k c (with_step x) go (λ w p s. moves_same k.asked w (with_step x w) refl refl refl s) h
 
   keep_push_feature : (frame : Frame) (line : ℕ) (path : Bytes) → Keeps k c (push_feature frame line path)
   keep_push_feature frame line path =
       keep_make_string k c path _ (λ n. keep_reading k c (λ w. is_frozen_at w.objects features) _ (λ t.
       keep_choose k c t _ _ (keep_raise_new k c frame line frozen_error (no_change (codes "Array")))
-      (keep_charge k c 1 _ (keep_changing k c (with_feature n) _ (λ w p s. moves_feature n w s) (keep_done k c yes)))))
+      (keep_charge k c 1 _ (keep_changing k c (with_feature n) _ (λ w p s. moves_feature k.asked n w s) (keep_done k c yes)))))
 
   keep_while_loading : (path : Bytes) (go : Run) → Keeps k c go → Keeps k c (while_loading path go)
-  keep_while_loading path go h = keep_between k c (λ w. with_loading (w.loading ++ path ∷ []) w) (λ u w. with_loading u.loading w) go (λ w. refl) (λ w. refl) (λ w z. refl) (λ w z. refl) h
+  keep_while_loading path go h = keep_between k c (λ w. with_loading (w.loading ++ path ∷ []) w) (λ u w. with_loading u.loading w) go (λ w. refl) (λ w. refl) (λ w. refl) (λ w z. refl) (λ w z. refl) (λ w z. refl) h
 
   -- Texts.
 
@@ -126,33 +132,34 @@ module _ (k : Known) (c : Around) where
   keep_line_or_nil (x ∷ f) = keep_make_string k c (x ∷ f) _ (λ n. keep_done k c (object n))
 
   keep_get_line : Keeps k c get_line
-  keep_get_line = keep_reading k c (λ w. first_line w.input) _ (λ f. keep_changing k c with_line_taken _ (λ w p s. moves_same w (with_line_taken w) refl refl s) (keep_line_or_nil f))
+  keep_get_line = keep_reading k c (λ w. first_line w.input) _ (λ f. keep_changing k c with_line_taken _ (λ w p s. moves_same k.asked w (with_line_taken w) refl refl refl s) (keep_line_or_nil f))
 
   keep_throw_if : (t : Bool) (frame : Frame) (line : ℕ) (v : Value) → Keeps k c (throw_if t frame line v)
-  keep_throw_if true frame line v = keep_changing k c (thrown (stand frame line) v) _ (λ w p s. moves_thrown (stand frame line) v w s) (keep_raise k c v)
+  keep_throw_if true frame line v = keep_changing k c (thrown (stand frame line) v) _ (λ w p s. moves_thrown k.asked (stand frame line) v w s) (keep_raise k c v)
   keep_throw_if false frame line v = keep_raise_new k c frame line type_error (codes "exception class/object expected")
 
-  module _ (files : Files) (are : ArePlaced files) (b : Tree → Frame → Run) (h : Bodies b) where
+  module _ (files : Files) (are : ArePlaced files) (held : k.asked → AreHoused files) (b : Tree → Frame → Run) (h : Bodies k.asked b) where
     keep_load_data : (frame : Frame) (line : ℕ) (kind : DataKind) (x : Bytes) (o : Option Bytes) → Keeps k c (load_data files frame line kind x o)
     keep_load_data frame line kind x None = keep_raise_new k c frame line runtime_error (no_such_file x)
     keep_load_data frame line kind x (Some path) = keep_pay k c _ (keep_step (loaded (data_file kind) path) _ (keep_data_loaded frame line path (files.datum kind path)))
 
     -- a file's body
-    pub keep_code : (frame : Frame) (line : ℕ) (path : Bytes) (load : Option ℕ) (t : Tree) → IsPlaced (at_home file) t → Keeps k c (run_code files b frame line (file_code path load t))
-    keep_code frame line path load t placed =
+    pub keep_code : (frame : Frame) (line : ℕ) (path : Bytes) (load : Option ℕ) (t : Tree) → IsPlaced (at_home file) t → (k.asked → IsHoused (file_sight t) t) → Keeps k c (run_code files b frame line (file_code path load t))
+    keep_code frame line path load t placed housed =
         let code : Code = file_code path load t in
-        keep_charge k c (environment_cells (length code.locals)) _ (keep_reading k c next_environment _ (λ n. keep_opening k c None (all_nil code.locals) _ (record {
+        keep_charge k c (environment_cells (length code.locals)) _ (keep_opening k c None (all_nil code.locals) code.locals (λ a. []) _ (λ w p a. names_nil code.locals) (λ w p a. tt) (λ n. record {
           by = λ w p s.
               let inner : Frame = file_frame code n (stand frame line) frame.running frame.calling in
-              returned_out c (at_home file) n w (b code.body inner w) refl refl
-              ((h (at_home file) code.body inner (refl, (tt, placed))).by w (record { classes = tt; home = tt; loop = λ e. absurd (false≢true e); block = refl }) s);
-        })))
+              returned_out k.asked c (at_home file) n w (b code.body inner w) refl refl
+              ((h (at_home file) (λ a. file_sight t) code.body inner (refl, (tt, placed)) (λ a. (tt, housed a))).by w
+              (record { fits = file_fits path load t n (stand frame line) frame.running frame.calling w.objects; sees = λ a. file_sees path load t n (stand frame line) frame.running frame.calling w (p.1 a) }) s);
+        }))
 
     keep_ruby_loaded : (frame : Frame) (line : ℕ) (path : Bytes) (load : ℕ) (r : RubyFile) → files.ruby path ≡ r → Keeps k c (ruby_loaded files b frame line path load r)
     keep_ruby_loaded frame line path load no_ruby e = keep_raise_new k c frame line load_error (cannot_load path)
     keep_ruby_loaded frame line path load (ruby_fault l) e = keep_raise_new k c frame line syntax_error (fault_at path l (codes "syntax error"))
     keep_ruby_loaded frame line path load (ruby_tree t) e =
-        keep_changing k c (with_entry load 0) _ (λ w p s. moves_with_entry load 0 w s) (keep_code frame line path (Some load) t (are path t e))
+        keep_changing k c (with_entry load 0) _ (λ w p s. moves_with_entry k.asked load 0 w s) (keep_code frame line path (Some load) t (are path t e) (λ a. held a path t e))
 
     pub keep_load_ruby : (frame : Frame) (line : ℕ) (path : Bytes) → Keeps k c (load_ruby files b frame line path)
     keep_load_ruby frame line path =
@@ -175,7 +182,7 @@ module _ (k : Known) (c : Around) where
 
     keep_call_closure : (frame : Frame) (line : ℕ) (vs : List Value) (o : Option ℕ) → Keeps k c (call_closure files b frame line vs o)
     keep_call_closure frame line vs None = keep_done k c nil
-    keep_call_closure frame line vs (Some i) = keep_block b h k c frame line i vs
+    keep_call_closure frame line vs (Some i) = keep_block b k h c frame line i vs
 
     keep_load_named : (frame : Frame) (line : ℕ) (kind : DataKind) (v : Value) → Keeps k c (load_named files b frame line kind v)
     keep_load_named frame line kind v = keep_text frame line v _ (λ x. keep_load_data frame line kind x (normal_of slash x))
@@ -187,38 +194,38 @@ module _ (k : Known) (c : Around) where
     keep_control control_gets frame line self vs = keep_get_line
     keep_control control_block_given frame line self vs = keep_done k c (truth_value (is_given frame.block))
     keep_control control_emit frame line self vs =
-        keep_text frame line (first_of vs) _ (λ f. keep_changing k c (written_out (is_true (second_of vs)) f) _ (λ w p s. moves_written (is_true (second_of vs)) f w s) (keep_done k c nil))
+        keep_text frame line (first_of vs) _ (λ f. keep_changing k c (written_out (is_true (second_of vs)) f) _ (λ w p s. moves_written k.asked (is_true (second_of vs)) f w s) (keep_done k c nil))
     keep_control control_throw frame line self vs = keep_reading k c (λ w. is_a w.objects (first_of vs) exception) _ (λ t. keep_throw_if t frame line (first_of vs))
     keep_control control_call frame line self vs = keep_reading k c (λ w. closure_of w.objects self) _ (keep_call_closure frame line vs)
     keep_control control_load_yaml frame line self vs = keep_load_named frame line data_kind.Yaml (first_of vs)
     keep_control control_load_json frame line self vs = keep_load_named frame line data_kind.Json (first_of vs)
 
-    answer_out : (frame : Frame) (line : ℕ) (self : Value) (vs : List Value) (a : NativeAnswer) (w : World) → AnswerFine w.objects a → k.holds w.objects → IsStored w → StoredOut c w (run_answer files b frame line self vs a w)
+    answer_out : (frame : Frame) (line : ℕ) (self : Value) (vs : List Value) (a : NativeAnswer) (w : World) → AnswerFine k.asked w.objects a → k.holds w → Good k.asked w → GoodOut k.asked c w (run_answer files b frame line self vs a w)
     answer_out frame line self vs (itself a) w fine p s = answered_out k c frame line a w fine p s
     answer_out frame line self vs (by_control d) w fine p s = (keep_counted k c frame line (control_count d) (length vs) _ (keep_control d frame line self vs)).by w p s
 
     keep_native : (n : Native) (frame : Frame) (line : ℕ) (self : Value) (vs : List Value) → Keeps k c (run_native files b n frame line self vs)
     keep_native n frame line self vs =
-        keep_read k c (λ w. native_answer n w.objects self vs) (run_answer files b frame line self vs) (λ w p s. answer_out frame line self vs (native_answer n w.objects self vs) w (native_fine n w.objects self vs) p s)
+        keep_read k c (λ w. native_answer n w.objects self vs) (run_answer files b frame line self vs) (λ w p s. answer_out frame line self vs (native_answer n w.objects self vs) w (native_fine k.asked n w.objects self vs) p s)
 
-    found_out : (frame : Frame) (line : ℕ) (self : Value) (x : Bytes) (vs : List Value) (g : Given) (place : Place) (body : MethodBody) (w : World) → BodyStored w.objects body → k.holds w.objects → IsStored w →
-        StoredOut c w (run_found files b frame line self x vs g place body w)
-    found_out frame line self x vs g place (written code) w stored p s = (keep_method b h k c frame line code self x place vs g).by w (p, stored) s
-    found_out frame line self x vs g place (native n) w stored p s = (keep_native n frame line self vs).by w p s
-    found_out frame line self x vs g place (reader y) w stored p s =
+    found_out : (frame : Frame) (line : ℕ) (self : Value) (x : Bytes) (vs : List Value) (g : Given) (place : Place) (body : MethodBody) (w : World) → BodyIs (GoodCode k.asked w.objects) body → IsClass w.objects (class_of_place place) → k.holds w → Good k.asked w →
+        GoodOut k.asked c w (run_found files b frame line self x vs g place body w)
+    found_out frame line self x vs g place (written code) w stored is p s = (keep_method b k h c frame line code self x place vs g).by w ((p, stored), is) s
+    found_out frame line self x vs g place (native n) w stored is p s = (keep_native n frame line self vs).by w p s
+    found_out frame line self x vs g place (reader y) w stored is p s =
         (keep_counted k c frame line (record { required = 0; optional = 0; rest = false }) (length vs) _ (keep_reading k c (variable_of self y) _ (λ v. keep_done k c v))).by w p s
-    found_out frame line self x vs g place (writer y) w stored p s =
+    found_out frame line self x vs g place (writer y) w stored is p s =
         (keep_counted k c frame line (record { required = 1; optional = 0; rest = false }) (length vs) _ (keep_set_variable k c frame line self y (first_of vs))).by w p s
 
-    pub if_found_out : (frame : Frame) (line : ℕ) (self : Value) (x : Bytes) (vs : List Value) (g : Given) (bare : Bool) (o : Option Found) (w : World) → FoundStored w.objects o → k.holds w.objects → IsStored w →
-        StoredOut c w (run_if_found files b frame line self x vs g bare o w)
+    pub if_found_out : (frame : Frame) (line : ℕ) (self : Value) (x : Bytes) (vs : List Value) (g : Given) (bare : Bool) (o : Option Found) (w : World) → FoundIs (GoodCode k.asked w.objects) w.objects o → k.holds w → Good k.asked w →
+        GoodOut k.asked c w (run_if_found files b frame line self x vs g bare o w)
     if_found_out frame line self x vs g bare None w stored p s = (keep_no_method k c frame line self x bare).by w p s
-    if_found_out frame line self x vs g bare (Some f) w stored p s = found_out frame line self x vs g f.place f.body w stored p s
+    if_found_out frame line self x vs g bare (Some f) w stored p s = found_out frame line self x vs g f.place f.body w stored.0 stored.1 p s
 
     pub keep_call : (frame : Frame) (line : ℕ) (self : Value) (x : Bytes) (vs : List Value) (g : Given) (bare : Bool) → Keeps k c (call_method files b frame line self x vs g bare)
     keep_call frame line self x vs g bare =
         keep_read k c (λ w. find_method w.objects self x) (run_if_found files b frame line self x vs g bare) (λ w p s.
-        if_found_out frame line self x vs g bare (find_method w.objects self x) w (find_stored w.objects x s.rows (places_for w.objects self)) p s)
+        if_found_out frame line self x vs g bare (find_method w.objects self x) w (find_is (GoodCode k.asked w.objects) w.objects x s.rows (places_for w.objects self)) p s)
 
     pub keep_send : (frame : Frame) (line : ℕ) (self : Value) (x : Bytes) (vs : List Value) → Keeps k c (send_to files b frame line self x vs)
     keep_send frame line self x vs = keep_call frame line self x vs no_block false

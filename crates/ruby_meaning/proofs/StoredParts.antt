@@ -1,4 +1,4 @@
--- What is defined, set and left, from a stored world.
+-- What is defined, set and left, from a good world.
 use Rattle.std.proofs.Common.{◌≡◌, ℕ, ◌+◌, Bool, true, false, cond, refl, sym, subst, List, [], ◌∷◌, ◌++◌, length, Option, Some, None, ℤ}
 use Rattle.std.specs.Prelude.{codes, nat_eq, ◌||◌}
 use Rattle.std.proofs.lemmas.Bool.{false≢true, eqb-true}
@@ -13,16 +13,21 @@ use Rattle.ruby_meaning.specs.Locals.{place_of, locals_of}
 use Rattle.ruby_meaning.specs.Constants.{own_constant, innermost, name_behind, constant_around, constant_behind, missing_constant}
 use Rattle.ruby_meaning.specs.World.{Home, in_file, in_method, in_class, Given, World, Frame, to_loop, to_call, Done, Break, Return, Run, text_of}
 use Rattle.ruby_meaning.specs.Steps.{changing, make_string, with_object, make}
-use Rattle.ruby_meaning.specs.Calls.{all_nil, next_environment}
+use Rattle.ruby_meaning.specs.Calls.{all_nil}
 use Rattle.ruby_meaning.specs.Definitions.{holder, set_local_in, set_local, fixed_global, with_global, name_cost, set_global_if, with_constant, set_constant, set_goal, set_goals, constant_found, class_number, behind_class, path_from, path_around, code_of, with_row, with_class_row, define_on, define_method}
 use Rattle.ruby_meaning.specs.ClassBodies.{is_class_kind, is_module_kind, class_alone, module_alone, same_class, class_frame, open_class, make_class, not_a, open_found, class_or_new, module_or_new, if_same_superclass, below_base, with_base, class_below, class_named, module_of_name}
 use Rattle.ruby_meaning.specs.Parts.{make_array, make_hash, no_range, range_to, make_range, piece_found, piece_of, joined_text, make_joined, of_values, unexpected_return, leave_from, leave_home, no_break, leave_block, leave_loop, given_of, wrong_block, given_found, given_value, match_found, match_class}
 use Rattle.ruby_meaning.specs.ClassGraph.{number_if, StoreLeads}
+use Rattle.ruby_meaning.specs.Levels.{body_sight, IsHoused}
 use Rattle.reference_laws.specs.Placed.{home_of, IsPlaced}
-use Rattle.ruby_meaning.specs.Stored.{IsClass, AreClasses, IsStored, StoredOut}
+use Rattle.ruby_meaning.specs.Stored.{IsClass, AreClasses}
+use Rattle.ruby_meaning.proofs.Changes.{keeps_set_local}
+use Rattle.ruby_meaning.proofs.LocalNames.{names_nil}
 use Rattle.ruby_meaning.proofs.StoreLeading.{store_behind, stays_class}
-use Rattle.ruby_meaning.proofs.StoredStores.{keeps_behind, keeps_method, keeps_class_method, keeps_constants}
-use Rattle.ruby_meaning.proofs.StoredSteps.{Known, with_class, Keeps, Moves, moves_objects, moves_same, out_on, keep_stay, keep_done, keep_then, keep_reading, keep_read, keep_changing, keep_choose, keep_charge, keep_make, keep_make_string, keep_raise_new, keep_deeper, class_out}
+use Rattle.ruby_meaning.proofs.StoredStores.{GoodCode, keeps_behind, keeps_method, keeps_class_method, keeps_constants}
+use Rattle.ruby_meaning.proofs.StoredWorlds.{Good, Moves, moves_objects, moves_rooms, moves_same}
+use Rattle.ruby_meaning.proofs.StoredSteps.{Known, with_class, GoodOut, Keeps, out_on, keep_by, keep_stay, keep_done, keep_then, keep_reading, keep_read, keep_changing, keep_choose, keep_charge, keep_make, keep_make_string, keep_raise_new, keep_deeper, class_out}
+use Rattle.ruby_meaning.proofs.MadeFrames.{class_fits, class_sees, code_stands, code_housed}
 use Rattle.ruby_meaning.proofs.StoredCalls.{in_frame, keep_entering, keep_opening, keep_set_variable}
 
 -- the innermost class body is one of a class, or there is none and it is Object
@@ -30,15 +35,20 @@ innermost_class : (s : Objects) (cs : List ℕ) → IsClass s object_class → A
 innermost_class s [] o h = o
 innermost_class s (c ∷ cs) o h = h.0
 
-moves_local_in : (x : Bytes) (v : Value) (o : Option ℕ) (w : World) → IsStored w → Moves w (set_local_in x v o w)
-moves_local_in x v None w s = moves_same w w refl refl s
-moves_local_in x v (Some n) w s = moves_same w (set_local_in x v (Some n) w) refl refl s
+objects_same : (x : Bytes) (v : Value) (o : Option ℕ) (w : World) → (set_local_in x v o w).objects ≡ w.objects
+objects_same x v None w = refl
+objects_same x v (Some n) w = refl
 
-pub moves_local : (frame : Frame) (x : Bytes) (v : Value) (w : World) → IsStored w → Moves w (set_local frame x v w)
-moves_local frame x v w s = moves_local_in x v (holder frame x w) w s
+closures_same : (x : Bytes) (v : Value) (o : Option ℕ) (w : World) → (set_local_in x v o w).closures ≡ w.closures
+closures_same x v None w = refl
+closures_same x v (Some n) w = refl
 
-moves_constant : (n : ℕ) (x : Bytes) (v : Value) (w : World) → IsClass w.objects n → IsStored w → Moves w (with_constant n x v w)
-moves_constant n x v w is s = moves_objects w (with_constant n x v w) (keeps_constants w.objects n (with_name x v (class_at w.objects n).constants) is) refl s
+module _ (asked : Type 0) where
+  pub moves_local : (frame : Frame) (x : Bytes) (v : Value) (w : World) → Good asked w → Moves asked w (set_local frame x v w)
+  moves_local frame x v w s = moves_rooms asked w (set_local frame x v w) (objects_same x v (holder frame x w) w) (λ g. ((keeps_set_local frame frame x v).leads w).stay) (closures_same x v (holder frame x w) w) s
+
+  pub moves_constant : (n : ℕ) (x : Bytes) (v : Value) (w : World) → IsClass w.objects n → Good asked w → Moves asked w (with_constant n x v w)
+  moves_constant n x v w is s = moves_objects asked w (with_constant n x v w) (keeps_constants asked w.objects n (with_name x v (class_at w.objects n).constants) is) refl refl s
 
 -- Numbers that are found to be classes.
 
@@ -94,7 +104,7 @@ module_is s (symbol_named x) = tt
 
 -- what goes on with a number that is read, of which it is known that it is a class's
 module _ (k : Known) (c : Around) where
-  number_out : (go : Option ℕ → Run) → Keeps k c (go None) → ((n : ℕ) → Keeps (with_class k n) c (go (Some n))) → (o : Option ℕ) (w : World) → NumberIs w.objects o → k.holds w.objects → IsStored w → StoredOut c w (go o w)
+  number_out : (go : Option ℕ → Run) → Keeps k c (go None) → ((n : ℕ) → Keeps (with_class k n) c (go (Some n))) → (o : Option ℕ) (w : World) → NumberIs w.objects o → k.holds w → Good k.asked w → GoodOut k.asked c w (go o w)
   number_out go h hs None w is p s = h.by w p s
   number_out go h hs (Some n) w is p s = (hs n).by w (p, is) s
 
@@ -108,22 +118,22 @@ kind_last [] o = refl
 kind_last (x ∷ s) o = kind_last s o
 
 -- Names, methods and classes, in a frame of which the class bodies are known.
-module _ (k : Known) (c : Around) (frame : Frame) (has : (s : Objects) → k.holds s → AreClasses s frame.code.classes) where
-  inner_is : (w : World) → k.holds w.objects → IsStored w → IsClass w.objects (innermost frame.code.classes)
-  inner_is w p s = innermost_class w.objects frame.code.classes s.object (has w.objects p)
+module _ (k : Known) (c : Around) (frame : Frame) (has : (w : World) → k.holds w → AreClasses w.objects frame.code.classes) where
+  inner_is : (w : World) → k.holds w → Good k.asked w → IsClass w.objects (innermost frame.code.classes)
+  inner_is w p s = innermost_class w.objects frame.code.classes s.object (has w p)
 
   keep_set_global : (line : ℕ) (x : Bytes) (v : Value) (o : Option Value) → Keeps k c (set_global_if frame line x v o)
   keep_set_global line x v None =
-      keep_reading k c (λ w. name_cost (has_name x w.globals)) _ (λ cost. keep_charge k c cost _ (keep_changing k c (with_global x v) _ (λ w p s. moves_same w (with_global x v w) refl refl s) (keep_done k c v)))
+      keep_reading k c (λ w. name_cost (has_name x w.globals)) _ (λ cost. keep_charge k c cost _ (keep_changing k c (with_global x v) _ (λ w p s. moves_same k.asked w (with_global x v w) refl refl refl s) (keep_done k c v)))
   keep_set_global line x v (Some u) = keep_raise_new k c frame line name_error (x ++ codes " is a read-only variable")
 
   keep_set_constant : (x : Bytes) (v : Value) → Keeps k c (set_constant (innermost frame.code.classes) x v)
   keep_set_constant x v =
       keep_reading k c (λ w. name_cost (has_name x (class_at w.objects (innermost frame.code.classes)).constants)) _ (λ cost. keep_charge k c cost _
-      (keep_changing k c (with_constant (innermost frame.code.classes) x v) _ (λ w p s. moves_constant (innermost frame.code.classes) x v w (inner_is w p s) s) (keep_done k c v)))
+      (keep_changing k c (with_constant (innermost frame.code.classes) x v) _ (λ w p s. moves_constant k.asked (innermost frame.code.classes) x v w (inner_is w p s) s) (keep_done k c v)))
 
   pub keep_set_goal : (line : ℕ) (g : Goal) (v : Value) → Keeps k c (set_goal frame line g v)
-  keep_set_goal line (to_local x) v = keep_changing k c (set_local frame x v) _ (λ w p s. moves_local frame x v w s) (keep_done k c v)
+  keep_set_goal line (to_local x) v = keep_changing k c (set_local frame x v) _ (λ w p s. moves_local k.asked frame x v w s) (keep_done k c v)
   keep_set_goal line (to_instance x) v = keep_set_variable k c frame line frame.self_value x v
   keep_set_goal line (to_global x) v = keep_set_global line x v (fixed_global x)
   keep_set_goal line (to_constant x) v = keep_set_constant x v
@@ -152,34 +162,38 @@ module _ (k : Known) (c : Around) (frame : Frame) (has : (s : Objects) → k.hol
 
   -- Methods.
 
-  keep_define_on : (line : ℕ) (x : Bytes) (t : Tree) → IsPlaced (at_home (home_of t)) t → (n : ℕ) → Keeps (with_class k n) c (define_on frame line x t (Some n))
-  keep_define_on line x t placed n =
-      let j : Known = with_class k n in
-      let r : MethodRow = record { name = x; body = written (code_of frame t) } in
-      keep_charge j c method_cells _ (keep_changing j c (with_class_row n r) _
-      (λ w p s. moves_objects w (with_class_row n r w) (keeps_class_method w.objects n r p.1 (record { placed = placed; classes = has w.objects p.0 })) refl s) (keep_done j c (symbol_named x)))
+  module _ (t : Tree) (placed : IsPlaced (at_home (home_of t)) t) (housed : k.asked → IsHoused (body_sight t) t) where
+    good_code : (w : World) → k.holds w → GoodCode k.asked w.objects (code_of frame t)
+    good_code w p = record { stored = code_stands frame t w.objects placed (has w p); housed = λ a. code_housed frame t (housed a) }
 
-  pub keep_define_method : (line : ℕ) (x : Bytes) (t : Tree) → IsPlaced (at_home (home_of t)) t → (on_self : Bool) → Keeps k c (define_method frame line x t on_self)
-  keep_define_method line x t placed false =
-      let r : MethodRow = record { name = x; body = written (code_of frame t) } in
-      keep_charge k c method_cells _ (keep_changing k c (with_row (innermost frame.code.classes) r) _
-      (λ w p s. moves_objects w (with_row (innermost frame.code.classes) r w) (keeps_method w.objects (innermost frame.code.classes) r (inner_is w p s) (record { placed = placed; classes = has w.objects p })) refl s) (keep_done k c (symbol_named x)))
-  keep_define_method line x t placed true =
-      keep_read k c (λ w. class_number w.objects frame.self_value) (define_on frame line x t) (λ w p s.
-      number_out k c (define_on frame line x t) (keep_raise_new k c frame line type_error (codes "can't define singleton")) (keep_define_on line x t placed) (class_number w.objects frame.self_value) w (number_is w.objects frame.self_value) p s)
+    keep_define_on : (line : ℕ) (x : Bytes) (n : ℕ) → Keeps (with_class k n) c (define_on frame line x t (Some n))
+    keep_define_on line x n =
+        let j : Known = with_class k n in
+        let r : MethodRow = record { name = x; body = written (code_of frame t) } in
+        keep_charge j c method_cells _ (keep_changing j c (with_class_row n r) _
+        (λ w p s. moves_objects k.asked w (with_class_row n r w) (keeps_class_method k.asked w.objects n r p.1 (good_code w p.0)) refl refl s) (keep_done j c (symbol_named x)))
+
+    pub keep_define_method : (line : ℕ) (x : Bytes) (on_self : Bool) → Keeps k c (define_method frame line x t on_self)
+    keep_define_method line x false =
+        let r : MethodRow = record { name = x; body = written (code_of frame t) } in
+        keep_charge k c method_cells _ (keep_changing k c (with_row (innermost frame.code.classes) r) _
+        (λ w p s. moves_objects k.asked w (with_row (innermost frame.code.classes) r w) (keeps_method k.asked w.objects (innermost frame.code.classes) r (inner_is w p s) (good_code w p)) refl refl s) (keep_done k c (symbol_named x)))
+    keep_define_method line x true =
+        keep_read k c (λ w. class_number w.objects frame.self_value) (define_on frame line x t) (λ w p s.
+        number_out k c (define_on frame line x t) (keep_raise_new k c frame line type_error (codes "can't define singleton")) (keep_define_on line x) (class_number w.objects frame.self_value) w (number_is w.objects frame.self_value) p s)
 
   -- Class bodies.
 
-  pub keep_open_class : (line : ℕ) (t : Tree) (go : Frame → Run) → ((inner : Frame) → Keeps (in_frame (at_home placement.in_class) inner) (at_home placement.in_class) (go inner)) → (n : ℕ) → Keeps (with_class k n) c (open_class frame line t go n)
+  pub keep_open_class : (line : ℕ) (t : Tree) (go : Frame → Run) → ((inner : Frame) → Keeps (in_frame k.asked (at_home placement.in_class) (λ a. body_sight t) inner) (at_home placement.in_class) (go inner)) → (n : ℕ) → Keeps (with_class k n) c (open_class frame line t go n)
   keep_open_class line t go h n =
       let j : Known = with_class k n in
       keep_deeper j c frame line _ (keep_entering j c frame.code.source (place_of t) _ (keep_charge j c (environment_cells (length (locals_of [] t))) _
-      (keep_reading j c next_environment _ (λ i. keep_opening j c None (all_nil (locals_of [] t)) _ (record {
+      (keep_opening j c None (all_nil (locals_of [] t)) (locals_of [] t) (λ a. []) _ (λ w p a. names_nil (locals_of [] t)) (λ w p a. tt) (λ i. record {
         by = λ w p s.
             let inner : Frame = class_frame frame line t n i in
-            class_out c (at_home placement.in_class) w (go inner w) refl refl
-            ((h inner).by w (record { classes = (p.1, has w.objects p.0); home = tt; loop = λ e. absurd (false≢true e); block = refl }) s);
-      })))))
+            class_out k.asked c (at_home placement.in_class) w (go inner w) refl refl
+            ((h inner).by w (record { fits = class_fits frame line t n i w.objects p.0.1 (has w p.0.0); sees = λ a. class_sees frame line t n i w (p.1 a) }) s);
+      }))))
 
   -- Makes a class below one that there is, or none.
   module _ (x : Bytes) (go : ℕ → Run) (h : (n : ℕ) → Keeps (with_class k n) c (go n)) where
@@ -190,32 +204,33 @@ module _ (k : Known) (c : Around) (frame : Frame) (has : (s : Objects) → k.hol
     over s None is p i = absurd (false≢true i)
     over s (Some n) is p i = subst (IsClass s) (sym (only p n (nat_eq p n) refl i)) is
 
-    made_out : (name : Bytes) (m : Bool) (base : Option ℕ) (w : World) → NumberIs w.objects base → k.holds w.objects → IsStored w →
-        StoredOut c w (make (made name m base) (λ n. changing (with_constant (innermost frame.code.classes) x (object n)) (go n)) w)
+    made_out : (name : Bytes) (m : Bool) (base : Option ℕ) (w : World) → NumberIs w.objects base → k.holds w → Good k.asked w →
+        GoodOut k.asked c w (make (made name m base) (λ n. changing (with_constant (innermost frame.code.classes) x (object n)) (go n)) w)
     made_out name m base w is p s =
         let o : Object = made name m base in
         let n : ℕ = length w.objects in
         let z : World = with_object o w in
         let l : StoreLeads w.objects z.objects = store_behind w.objects o (over w.objects base is) in
-        let a : Moves w z = moves_objects w z (keeps_behind w.objects o l (tt, tt)) refl s in
+        let a : Moves k.asked w z = moves_objects k.asked w z (keeps_behind k.asked w.objects o l (tt, tt)) refl refl s in
         let y : World = with_constant (innermost frame.code.classes) x (object n) z in
-        let q : k.holds z.objects = k.stays w.objects z.objects l p in
-        let b : Moves z y = moves_constant (innermost frame.code.classes) x (object n) z (inner_is z q a.stored) a.stored in
+        let q : k.holds z = k.stays w z a.leads p in
+        let b : Moves k.asked z y = moves_constant k.asked (innermost frame.code.classes) x (object n) z (inner_is z q a.good) a.good in
         let there : IsClass z.objects n = subst (λ kind. is_class_or_module kind ≡ true) (sym (kind_last w.objects o)) refl in
-        out_on c w z (go n y) a.leads (out_on c z y (go n y) b.leads ((h n).by y (k.stays z.objects y.objects b.leads q, stays_class z.objects y.objects n b.leads there) b.stored))
+        out_on k.asked c w z (go n y) a.leads (out_on k.asked c z y (go n y) b.leads ((h n).by y (k.stays z y b.leads q, stays_class z.objects y.objects n b.leads.store there) b.good))
 
-    keep_make_class : (j : Known) (m : Bool) (base : Option ℕ) → ((w : World) → j.holds w.objects → IsStored w → k.holds w.objects × NumberIs w.objects base) → Keeps j c (make_class frame x m base go)
-    keep_make_class j m base is =
-        keep_reading j c (λ w. name_behind w.objects (innermost frame.code.classes) x) _ (λ name. keep_charge j c (class_cells + name_cells) _ (record { by = λ w p s. made_out name m base w (is w p s).1 (is w p s).0 s }))
+    keep_make_class : (j : Known) (same : j.asked ≡ k.asked) (m : Bool) (base : Option ℕ) → ((w : World) → j.holds w → Good k.asked w → k.holds w × NumberIs w.objects base) → Keeps j c (make_class frame x m base go)
+    keep_make_class j same m base is =
+        keep_reading j c (λ w. name_behind w.objects (innermost frame.code.classes) x) _ (λ name. keep_charge j c (class_cells + name_cells) _
+        (keep_by j k c _ same (λ w p s. made_out name m base w (is w p s).1 (is w p s).0 s)))
 
     keep_class_or_new : (line : ℕ) (o : Option Value) → Keeps k c (class_or_new frame line x go o)
-    keep_class_or_new line None = keep_make_class k false (Some object_class) (λ w p s. (p, s.object))
+    keep_class_or_new line None = keep_make_class k refl false (Some object_class) (λ w p s. (p, s.object))
     keep_class_or_new line (Some v) =
         keep_read k c (λ w. class_alone w.objects v) (open_found frame line x (codes "class") go) (λ w p s.
         number_out k c (open_found frame line x (codes "class") go) (keep_raise_new k c frame line type_error (not_a x (codes "class"))) h (class_alone w.objects v) w (alone_is w.objects v) p s)
 
     keep_module_or_new : (line : ℕ) (o : Option Value) → Keeps k c (module_or_new frame line x go o)
-    keep_module_or_new line None = keep_make_class k true None (λ w p s. (p, tt))
+    keep_module_or_new line None = keep_make_class k refl true None (λ w p s. (p, tt))
     keep_module_or_new line (Some v) =
         keep_read k c (λ w. module_alone w.objects v) (open_found frame line x (codes "module") go) (λ w p s.
         number_out k c (open_found frame line x (codes "module") go) (keep_raise_new k c frame line type_error (not_a x (codes "module"))) h (module_alone w.objects v) w (module_is w.objects v) p s)
@@ -230,7 +245,7 @@ module _ (k : Known) (c : Around) (frame : Frame) (has : (s : Objects) → k.hol
         let j : Known = with_class k base in
         keep_choose j c (is_one_of base closed_classes) _ _
         (keep_reading j c (λ w. class_name w.objects base) _ (λ name. keep_raise_new j c frame line type_error (codes "can't inherit from " ++ name)))
-        (keep_make_class j false (Some base) (λ w p s. p))
+        (keep_make_class j refl false (Some base) (λ w p s. p))
     keep_below line base (Some v) =
         let j : Known = with_class k base in
         let step : ℕ → Run = if_same_superclass frame line x go base in

@@ -1,4 +1,4 @@
--- The plain run as a whole over placed files: its world is stored, and it ends as a program does.
+-- The plain run as a whole over placed files: its world is stored, and housed where the files are; and it ends as a program does.
 use Rattle.std.proofs.Common.{ℕ, zero, suc, ◌+◌, Bool, true, false, refl, arith, List, [], ◌∷◌, ◌++◌, map, length, Option, Some, None}
 use Rattle.std.specs.Prelude.{filter_map}
 use Rattle.std.proofs.lemmas.Bool.{false≢true}
@@ -6,7 +6,7 @@ use Rattle.ruby_tree.specs.Names.{Bytes}
 use Rattle.ruby_tree.specs.Tree.{Tree}
 use Rattle.ruby_tree.specs.Placement.{at_home, file}
 use Rattle.ruby_meaning.specs.NativeName.{Native}
-use Rattle.ruby_meaning.specs.Value.{MethodRow, plain, elements, Objects}
+use Rattle.ruby_meaning.specs.Value.{Code, MethodRow, plain, elements, Objects}
 use Rattle.ruby_meaning.specs.Numbers.{object_class}
 use Rattle.ruby_meaning.specs.Natives.{native_rows}
 use Rattle.ruby_meaning.specs.Store.{class_in, class_at, new_object, new_string, Place}
@@ -16,10 +16,13 @@ use Rattle.ruby_meaning.specs.Evaluation.{eval}
 use Rattle.ruby_meaning.specs.RunLaws.{EndsOutside}
 use Rattle.ruby_meaning.specs.PlainRun.{StartClass, numbers_from, is_rows_of, is_class_rows_of, row_if, row_here, class_row_here, start_classes, start_objects, start_store, start_world, start_cells, top_frame, with_turns, Program, program_run}
 use Rattle.reference_laws.specs.Placed.{IsPlaced}
-use Rattle.ruby_meaning.specs.Stored.{RowsStored, ClassStored, IsStored, PlacedOut, ArePlaced, EndsAsProgram, StoredOut}
+use Rattle.ruby_meaning.specs.Levels.{file_sight, IsHoused}
+use Rattle.ruby_meaning.specs.Stored.{RowsAre, ClassIs, EachCode, CodeStored, IsStored, PlacedOut, ArePlaced, EndsAsProgram}
+use Rattle.ruby_meaning.specs.Housed.{CodeHoused, WorldHoused, AreHoused}
 use Rattle.ruby_meaning.proofs.ClassGraph.{start_graph}
 use Rattle.ruby_meaning.proofs.Ends.{program_ends}
-use Rattle.ruby_meaning.proofs.StoredSteps.{nothing, Keeps, moves_same, keep_then, keep_changing, keep_charge}
+use Rattle.ruby_meaning.proofs.StoredWorlds.{good_of, stored_of, housed_of, moves_same}
+use Rattle.ruby_meaning.proofs.StoredSteps.{Known, nothing, GoodOut, Keeps, keep_then, keep_changing, keep_charge}
 use Rattle.ruby_meaning.proofs.StoredLoads.{keep_code, keep_load_ruby}
 use Rattle.ruby_meaning.proofs.StoredTrees.{keep_eval}
 
@@ -30,35 +33,37 @@ abbrev with_row_if : Option MethodRow → List MethodRow → List MethodRow
 with_row_if None rows = rows
 with_row_if (Some r) rows = r ∷ rows
 
-row_if_stored : (s : Objects) (t : Bool) (x : Bytes) (n : Native) (rest : List MethodRow) → RowsStored s rest → RowsStored s (with_row_if (row_if t x n) rest)
-row_if_stored s true x n rest h = (tt, h)
-row_if_stored s false x n rest h = h
+-- Each code of the start is as it should be, since the start has none.
+module _ (so : Code → Type 0) where
+  row_if_is : (t : Bool) (x : Bytes) (n : Native) (rest : List MethodRow) → RowsAre so rest → RowsAre so (with_row_if (row_if t x n) rest)
+  row_if_is true x n rest h = (tt, h)
+  row_if_is false x n rest h = h
 
-rows_here : (s : Objects) (c : ℕ) (rows : List (Place × Bytes × Native)) → RowsStored s (filter_map (row_here c) rows)
-rows_here s c [] = tt
-rows_here s c (r ∷ rows) = row_if_stored s (is_rows_of c r.0) r.1 r.2 _ (rows_here s c rows)
+  rows_here : (c : ℕ) (rows : List (Place × Bytes × Native)) → RowsAre so (filter_map (row_here c) rows)
+  rows_here c [] = tt
+  rows_here c (r ∷ rows) = row_if_is (is_rows_of c r.0) r.1 r.2 _ (rows_here c rows)
 
-class_rows_here : (s : Objects) (c : ℕ) (rows : List (Place × Bytes × Native)) → RowsStored s (filter_map (class_row_here c) rows)
-class_rows_here s c [] = tt
-class_rows_here s c (r ∷ rows) = row_if_stored s (is_class_rows_of c r.0) r.1 r.2 _ (class_rows_here s c rows)
+  class_rows_here : (c : ℕ) (rows : List (Place × Bytes × Native)) → RowsAre so (filter_map (class_row_here c) rows)
+  class_rows_here c [] = tt
+  class_rows_here c (r ∷ rows) = row_if_is (is_class_rows_of c r.0) r.1 r.2 _ (class_rows_here c rows)
 
-abbrev EachStored : Objects → Objects → Type 0
-EachStored s [] = Unit {0}
-EachStored s (o ∷ store) = ClassStored s (class_in o.kind) × EachStored s store
+  abbrev EachIs : Objects → Type 0
+  EachIs [] = Unit {0}
+  EachIs (o ∷ store) = ClassIs so (class_in o.kind) × EachIs store
 
-each_at : (s store : Objects) → EachStored s store → (n : ℕ) → ClassStored s (class_at store n)
-each_at s [] h n = (tt, tt)
-each_at s (o ∷ store) h zero = h.0
-each_at s (o ∷ store) h (suc n) = each_at s store h.1 n
+  each_at : (store : Objects) → EachIs store → (n : ℕ) → ClassIs so (class_at store n)
+  each_at [] h n = (tt, tt)
+  each_at (o ∷ store) h zero = h.0
+  each_at (o ∷ store) h (suc n) = each_at store h.1 n
 
-strings_stored : (s : Objects) (xs ys : List Bytes) → EachStored s (map new_string xs ++ map new_string ys)
-strings_stored s [] [] = tt
-strings_stored s [] (y ∷ ys) = ((tt, tt), strings_stored s [] ys)
-strings_stored s (x ∷ xs) ys = ((tt, tt), strings_stored s xs ys)
+  strings_are : (xs ys : List Bytes) → EachIs (map new_string xs ++ map new_string ys)
+  strings_are [] [] = tt
+  strings_are [] (y ∷ ys) = ((tt, tt), strings_are [] ys)
+  strings_are (x ∷ xs) ys = ((tt, tt), strings_are xs ys)
 
-classes_stored : (s : Objects) (n : ℕ) (cs : List StartClass) (rest : Objects) → EachStored s rest → EachStored s (start_objects n cs ++ rest)
-classes_stored s n [] rest h = h
-classes_stored s n (c ∷ cs) rest h = ((rows_here s n native_rows, class_rows_here s n native_rows), classes_stored s (suc n) cs rest h)
+  classes_are : (n : ℕ) (cs : List StartClass) (rest : Objects) → EachIs rest → EachIs (start_objects n cs ++ rest)
+  classes_are n [] rest h = h
+  classes_are n (c ∷ cs) rest h = ((rows_here n native_rows, class_rows_here n native_rows), classes_are (suc n) cs rest h)
 
 -- the objects behind the classes
 abbrev others : Program → Objects
@@ -70,11 +75,12 @@ others p =
     new_string p.file ∷
     (map new_string p.folders ++ map new_string p.words)
 
-others_stored : (s : Objects) (p : Program) → EachStored s (others p)
-others_stored s p = ((tt, tt), ((tt, tt), ((tt, tt), ((tt, tt), ((tt, tt), strings_stored s p.folders p.words)))))
+module _ (so : Code → Type 0) (p : Program) where
+  others_are : EachIs so (others p)
+  others_are = ((tt, tt), ((tt, tt), ((tt, tt), ((tt, tt), ((tt, tt), strings_are so p.folders p.words)))))
 
-start_each : (s : Objects) (p : Program) → EachStored s (start_store p)
-start_each s p = classes_stored s 0 start_classes (others p) (others_stored s p)
+  start_is : EachCode so (start_store p)
+  start_is n = each_at so (start_store p) (classes_are so 0 start_classes (others p) others_are) n
 
 pub start_stored : (p : Program) → IsStored (start_world p)
 start_stored p = record {
@@ -82,24 +88,33 @@ start_stored p = record {
   object = refl;
   there = omega arith;
   other = refl;
-  rows = λ n. each_at (start_store p) (start_store p) (start_each (start_store p) p) n;
+  rows = start_is (CodeStored (start_store p)) p;
   closures = tt;
 }
 
+pub start_housed : (p : Program) → WorldHoused (start_world p)
+start_housed p = record { rows = start_is CodeHoused p; closures = tt }
+
 -- Programs.
 
-program_keeps : (files : Files) → ArePlaced files → (prelude : Tree) → IsPlaced (at_home file) prelude → (p : Program) → Keeps nothing (at_home file) (program_run files prelude p)
-program_keeps files are prelude placed p =
-    keep_charge nothing (at_home file) (start_cells p) _
-    (keep_then nothing (at_home file) _ _ (keep_code nothing (at_home file) files are (eval files 0) (keep_eval files are 0) top_frame 0 [] None prelude placed) (λ v.
-    keep_changing nothing (at_home file) (with_turns p.turns) _ (λ w q s. moves_same w (with_turns p.turns w) refl refl s)
-    (keep_load_ruby nothing (at_home file) files are (eval files p.turns) (keep_eval files are p.turns) top_frame 0 p.file)))
+module _ (asked : Type 0) (files : Files) (are : ArePlaced files) (held : asked → AreHoused files) (prelude : Tree) (placed : IsPlaced (at_home file) prelude) (housed : asked → IsHoused (file_sight prelude) prelude) (p : Program) where
+  program_keeps : Keeps (nothing asked) (at_home file) (program_run files prelude p)
+  program_keeps =
+      let k : Known = nothing asked in
+      keep_charge k (at_home file) (start_cells p) _
+      (keep_then k (at_home file) _ _ (keep_code k (at_home file) files are held (eval files 0) (keep_eval asked files are held 0) top_frame 0 [] None prelude placed housed) (λ v.
+      keep_changing k (at_home file) (with_turns p.turns) _ (λ w q s. moves_same asked w (with_turns p.turns w) refl refl refl s)
+      (keep_load_ruby k (at_home file) files are held (eval files p.turns) (keep_eval asked files are held p.turns) top_frame 0 p.file)))
 
-program_out : (files : Files) → ArePlaced files → (prelude : Tree) → IsPlaced (at_home file) prelude → (p : Program) → StoredOut (at_home file) (start_world p) (program_run files prelude p (start_world p))
-program_out files are prelude placed p = (program_keeps files are prelude placed p).by (start_world p) tt (start_stored p)
+  program_out : GoodOut asked (at_home file) (start_world p) (program_run files prelude p (start_world p))
+  program_out = program_keeps.by (start_world p) tt (good_of asked (start_world p) (start_stored p) (λ g. start_housed p))
 
 pub program_stored : (files : Files) → ArePlaced files → (prelude : Tree) → IsPlaced (at_home file) prelude → (p : Program) → IsStored (world_of (program_run files prelude p (start_world p)))
-program_stored files are prelude placed p = (program_out files are prelude placed p).stored
+program_stored files are prelude placed p = stored_of ⊥ (world_of (program_run files prelude p (start_world p))) (program_out ⊥ files are (λ g. absurd g) prelude placed (λ g. absurd g) p).good
+
+pub program_housed : (files : Files) → ArePlaced files → AreHoused files → (prelude : Tree) → IsPlaced (at_home file) prelude → IsHoused (file_sight prelude) prelude → (p : Program) → WorldHoused (world_of (program_run files prelude p (start_world p)))
+program_housed files are held prelude placed housed p =
+    housed_of (Unit {0}) (world_of (program_run files prelude p (start_world p))) (program_out (Unit {0}) files are (λ g. held) prelude placed (λ g. housed) p).good tt
 
 as_program : (o : Outcome) → EndsOutside o → PlacedOut (at_home file) o → EndsAsProgram o
 as_program (Done v w) e h = tt
@@ -112,4 +127,4 @@ as_program (Spent w) e h = tt
 as_program (Full w) e h = tt
 
 pub program_as : (files : Files) → ArePlaced files → (prelude : Tree) → IsPlaced (at_home file) prelude → (p : Program) → EndsAsProgram (program_run files prelude p (start_world p))
-program_as files are prelude placed p = as_program (program_run files prelude p (start_world p)) (program_ends files prelude p) (program_out files are prelude placed p).placed
+program_as files are prelude placed p = as_program (program_run files prelude p (start_world p)) (program_ends files prelude p) (program_out ⊥ files are (λ g. absurd g) prelude placed (λ g. absurd g) p).placed

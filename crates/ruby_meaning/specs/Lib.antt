@@ -33,7 +33,9 @@ pub mod Rows
 pub mod EdgeRows
 pub mod WordRows
 pub mod Laws
+pub mod InSight
 pub mod RunLaws
 pub mod ClassGraph
 pub mod Stored
+pub mod Housed
 pub mod Constructs

@@ -1,23 +1,37 @@
 //! What holds of every run, over the definitions alone.
-ghost use Rattle.std.specs.Prelude.{◌≡◌, ℕ, ◌+◌, ◌≤◌, ◌<◌, Bool, true, false, ◌||◌, List, [], map, length, is_some};
+ghost use Rattle.std.specs.Prelude.{◌≡◌, ℕ, ◌+◌, ◌≤◌, ◌<◌, Bool, true, false, ◌||◌, List, [], ◌∷◌, map, length, Option, Some, None, is_some, slice_get};
 ghost use Rattle.bs_outside.specs.SourceTree.{SourceTree, bytes_at};
 ghost use Rattle.ruby_tree.specs.Names.{Bytes};
 ghost use Rattle.ruby_tree.specs.Tree.{SourcePosition, Tree, at, super, bare_super, return_with, break_with, while_loop, rescue, Trees, Other};
-ghost use Rattle.ruby_tree.specs.Placement.{Around, at_home, file};
-ghost use Rattle.ruby_meaning.specs.Value.{Value, Objects};
-ghost use Rattle.ruby_meaning.specs.Store.{cell_limit, each_once, line_of, superclasses, rows_of, find_in};
-ghost use Rattle.ruby_meaning.specs.World.{in_class, World, Frame, Spent, Run, world_of};
+ghost use Rattle.ruby_tree.specs.Placement.{Around, in_loop, in_block, in_clause, outside_clause, at_home, file};
+ghost use Rattle.ruby_tree.specs.Placement as placement;
+ghost use Rattle.ruby_meaning.specs.Value.{Value, Code, written, Class, class_or_module, Object, Objects};
+ghost use Rattle.ruby_meaning.specs.NativeName.{Native};
+ghost use Rattle.ruby_meaning.specs.Native.{gives};
+ghost use Rattle.ruby_meaning.specs.NativeAnswer.{itself, native_answer};
+ghost use Rattle.ruby_meaning.specs.Steps.{with_objects, with_object};
+ghost use Rattle.ruby_meaning.specs.Invoke.{thrown};
+ghost use Rattle.ruby_meaning.specs.Store.{cell_limit, each_once, line_of, superclasses, is_one_of, new_object, is_class_or_module, Place, rows_of, Found, find_in};
+ghost use Rattle.ruby_meaning.specs.World.{in_class, Given, Running, Closure, World, Frame, to_loop, Outcome, Break, Spent, Run, world_of};
+ghost use Rattle.ruby_meaning.specs.Locals.{params_of, locals_of};
+ghost use Rattle.ruby_meaning.specs.Calls.{bound, all_nil, with_names, with_environment, next_environment, method_frame, block_frame};
+ghost use Rattle.ruby_meaning.specs.Loads.{file_body, file_code, file_frame, with_feature};
+ghost use Rattle.ruby_meaning.specs.Definitions.{set_local, with_constant, code_of, closure_here, with_closure, with_row, with_class_row};
+ghost use Rattle.ruby_meaning.specs.ClassBodies.{class_frame};
 ghost use Rattle.ruby_meaning.specs.Files.{Files};
-ghost use Rattle.ruby_meaning.specs.Parts.{in_loop_of, handling};
+ghost use Rattle.ruby_meaning.specs.Parts.{in_loop_of, in_sequence, handling};
 ghost use Rattle.ruby_meaning.specs.Evaluation.{run, eval, evaluate, loop, rescuing};
 ghost use Rattle.ruby_meaning.specs.Constructs.{ReadsAsTable, body_of};
 ghost use Rattle.ruby_meaning.specs.PlainRun.{Program, IsPrelude, prelude_of_text, program_run, start_world, plain_run};
 ghost use Rattle.ruby_meaning.specs.FilesOf.{DataReader, IsRubyFile, files_of};
-ghost use Rattle.ruby_meaning.specs.ClassGraph.{IsGraph};
-ghost use Rattle.reference_laws.specs.Placed.{IsPlaced};
-ghost use Rattle.ruby_meaning.specs.Stored.{IsStored, FrameFits, PlacedOut, StaysStored, ArePlaced, EndsAsProgram};
+ghost use Rattle.ruby_meaning.specs.ClassGraph.{above_in, IsGraph, StoreLeads};
+ghost use Rattle.reference_laws.specs.Placed.{home_of, IsPlaced};
+ghost use Rattle.ruby_meaning.specs.Stored.{IsClass, AreClasses, class_of_place, CodeStored, StoredIn, ClosureStored, IsStored, FrameFits, PlacedOut, StoredOut, StaysStored, ArePlaced, EndsAsProgram};
+ghost use Rattle.ruby_meaning.specs.Housed.{CodeHoused, MadeIn, ClosureHoused, WorldHoused, HousedOut, StandsFrom, InPlace, StaysHoused, AreHoused};
 ghost use Rattle.ruby_meaning.specs.RunLaws.{GainsNone, loop_turn, rescue_turn, last_of, Allowed, EndsOutside};
-ghost use Rattle.ruby_meaning.specs.Laws.{Grows, IsSound, EnvironmentsStay, ClosuresStay, given, given_out, IsOver, given_program, HasEnded};
+ghost use Rattle.ruby_meaning.specs.Laws.{names_in, Grows, IsSound, EnvironmentsStay, ClosuresStay, given, given_out, IsOver, given_program, HasEnded};
+ghost use Rattle.ruby_meaning.specs.Levels.{Scopes, Sight, file_sight, body_sight, block_sight, IsHoused};
+ghost use Rattle.ruby_meaning.specs.InSight.{HaveNames, HasScopes, InSight};
 
 /// What each node does, as the table of nodes reads it, at any fuel and for any meaning of bodies;
 /// and an evaluation is such a run, in which bodies have one fuel less.
@@ -89,6 +103,13 @@ pub fn what_stands_stays()
     ensures program_loading { (files : Files) (prelude : Tree) (p : Program) → (world_of (program_run files prelude p (start_world p))).loading ≡ [] }
 {}
 
+/// The environments outward of a frame keep their names where environments stay, so through each
+/// evaluation; and one that is opened has its own before those of its parent.
+pub fn scopes_are_kept()
+    ensures stay { (scopes : Scopes) (frame : Frame) (w z : World) → HasScopes scopes frame w → EnvironmentsStay w.environments z.environments → HasScopes scopes frame z }
+    ensures opened { (scopes : Scopes) (parent : Option ℕ) (locals : List (Bytes × Value)) (frame : Frame) (w : World) → frame.environment ≡ next_environment w → HaveNames (length w.environments) scopes w.environments parent → HasScopes (names_in locals ∷ scopes) frame (with_environment parent locals w) }
+{}
+
 /// A run ends as its frame lets it: a return leaves a method or file that is running, a break a
 /// loop around it or a call that is being evaluated, and it is spent only with no turn left. A
 /// program ends with no return and no break.
@@ -100,11 +121,13 @@ pub fn runs_end_as_they_may()
 
 /// A `next` comes only out of a loop's body or a block, and a `retry` only out of a rescue clause:
 /// so the placement of its tree lets them. What the files of a source tree and the prelude are read
-/// as is placed, so a plain run ends with a value, an exception, no turn left or a full store.
+/// as is placed, so a plain run ends with a value, an exception, no turn left or a full store. And
+/// a break that leaves a loop comes only from where a loop or a block stands around.
 pub fn outcomes_are_placed()
     // One step, whatever its bodies do where a tree is not placed or a frame does not fit.
     ensures step { (files : Files) → ArePlaced files → (fuel : ℕ) (b : Tree → Frame → Run) → StaysStored b → StaysStored (run files fuel b) }
     ensures stays { (files : Files) → ArePlaced files → StaysStored (evaluate files) }
+    ensures break_in_loop { (files : Files) (c : Around) (t : Tree) (frame : Frame) (w z : World) (v : Value) → FrameFits c frame w.objects → evaluate files t frame w ≡ Break to_loop v z → c.loop ≡ true }
     ensures evaluated { (files : Files) → ArePlaced files → (c : Around) (t : Tree) (frame : Frame) (w : World) → IsPlaced c t → FrameFits c frame w.objects → IsStored w → PlacedOut c (evaluate files t frame w) }
     ensures program { (files : Files) (prelude : Tree) (p : Program) → ArePlaced files → IsPlaced (at_home file) prelude → EndsAsProgram (program_run files prelude p (start_world p)) }
     ensures read { (source : SourceTree) (files : Files) → ((path : Bytes) → IsRubyFile (bytes_at source path) (files.ruby path)) → ArePlaced files }
@@ -135,4 +158,69 @@ pub fn classes_have_no_cycle()
     ensures steps { (store : Objects) → IsGraph store → (k c : ℕ) → 0 < length store → length store ≤ k → line_of k store c ≡ line_of (length store) store c }
     ensures superclass_steps { (store : Objects) → IsGraph store → (k c : ℕ) → 0 < length store → length store ≤ k → superclasses k store c ≡ superclasses (length store) store c }
     ensures searched_once { (store : Objects) (x : Bytes) (numbers : List ℕ) → find_in store x (map rows_of (each_once numbers)) ≡ find_in store x (map rows_of numbers) }
+{}
+
+/// Each tree that is evaluated is in place: placed and housed, in a frame that fits and is in its
+/// sight, which runs the body in sight in environments that have the names in sight. So it is in
+/// each world that a run of such trees reaches, and at the end of a program whose files are placed
+/// and housed; and what follows a run in its frame is in place as it was.
+pub fn frames_are_in_sight()
+    // One step, whatever its bodies do where a tree is not in place.
+    ensures step { (files : Files) → ArePlaced files → AreHoused files → (fuel : ℕ) (b : Tree → Frame → Run) → StaysHoused b → StaysHoused (run files fuel b) }
+    ensures stays { (files : Files) → ArePlaced files → AreHoused files → StaysHoused (evaluate files) }
+    ensures follows { (c : Around) (s : Sight) (t : Tree) (frame : Frame) (w : World) → InPlace c s t frame w → (z : World) → StoreLeads w.objects z.objects → EnvironmentsStay w.environments z.environments → IsStored z → WorldHoused z → InPlace c s t frame z }
+    ensures start { (p : Program) → WorldHoused (start_world p) }
+    ensures program { (files : Files) → ArePlaced files → AreHoused files → (prelude : Tree) → IsPlaced (at_home file) prelude → IsHoused (file_sight prelude) prelude → (p : Program) → WorldHoused (world_of (program_run files prelude p (start_world p))) }
+{}
+
+/// The frames that a run makes are in place where they begin: that of a method's code, of a block,
+/// of a class body and of a file, each in the world in which its environment was opened, whatever
+/// its arguments. The code of a method that is found stands, and so does a block by its number; and
+/// so do the code and the block that a frame in place makes.
+pub fn made_frames_are_in_place()
+    ensures method { (frame : Frame) (line : ℕ) (code : Code) (self : Value) (x : Running) (given : Given) (vs : List Value) (n k : ℕ) (r b : Value) (w : World) → IsStored w → WorldHoused w → CodeStored w.objects code → CodeHoused code → IsClass w.objects (class_of_place x.place) → InPlace (at_home (home_of code.body)) (body_sight code.body) code.body (method_frame frame line code self (next_environment w) x given n) (with_environment None (with_names (bound (params_of code.body) vs k r b) (all_nil code.locals)) w) }
+    ensures block { (frame : Frame) (line : ℕ) (d : Closure) (i : ℕ) (c : Around) (s : Sight) (vs : List Value) (k : ℕ) (r b : Value) (w : World) → IsStored w → WorldHoused w → StoredIn c w.objects d → MadeIn s w.environments d → InPlace (in_block c) (block_sight s d.code.body) d.code.body (block_frame frame line d i (next_environment w)) (with_environment (Some d.environment) (with_names (bound (params_of d.code.body) vs k r b) (all_nil d.code.locals)) w) }
+    ensures class { (frame : Frame) (line : ℕ) (t : Tree) (c : ℕ) (w : World) → IsStored w → WorldHoused w → IsClass w.objects c → AreClasses w.objects frame.code.classes → IsPlaced (at_home placement.in_class) t → IsHoused (body_sight t) t → InPlace (at_home placement.in_class) (body_sight t) t (class_frame frame line t c (next_environment w)) (with_environment None (all_nil (locals_of [] t)) w) }
+    ensures file { (path : Bytes) (load : Option ℕ) (t : Tree) (outside : Option (Bytes × ℕ)) (running calling : List ℕ) (w : World) → IsStored w → WorldHoused w → IsPlaced (at_home file) t → IsHoused (file_sight t) t → InPlace (at_home file) (file_sight t) (file_body t) (file_frame (file_code path load t) (next_environment w) outside running calling) (with_environment None (all_nil (locals_of [] t)) w) }
+    ensures found { (w : World) → IsStored w → WorldHoused w → (x : Bytes) (ps : List Place) (f : Found) (code : Code) → find_in w.objects x ps ≡ Some f → f.body ≡ written code → CodeStored w.objects code × CodeHoused code × IsClass w.objects (class_of_place f.place) }
+    ensures closure { (w : World) → IsStored w → WorldHoused w → (i : ℕ) (d : Closure) → slice_get w.closures i ≡ Some d → ClosureStored w.objects d × ClosureHoused w.environments d }
+    ensures code_made { (c : Around) (frame : Frame) (w : World) (t : Tree) → FrameFits c frame w.objects → IsPlaced (at_home (home_of t)) t → IsHoused (body_sight t) t → CodeStored w.objects (code_of frame t) × CodeHoused (code_of frame t) }
+    ensures block_made { (c : Around) (s : Sight) (frame : Frame) (w : World) (t : Tree) → FrameFits c frame w.objects → InSight s frame w → IsPlaced (in_block c) t → IsHoused (block_sight s t) t → StoredIn c w.objects (closure_here frame t) × MadeIn s w.environments (closure_here frame t) }
+    // What stands stays where the store leads on and the environments stay.
+    ensures code_stays { (code : Code) (w z : World) → StoreLeads w.objects z.objects → CodeStored w.objects code → CodeStored z.objects code }
+    ensures block_stays { (c : Around) (s : Sight) (d : Closure) (w z : World) → StoreLeads w.objects z.objects → EnvironmentsStay w.environments z.environments → StoredIn c w.objects d → MadeIn s w.environments d → StoredIn c z.objects d × MadeIn s z.environments d }
+{}
+
+/// So are the frames of parts: of the body of a loop, of a rescue's clauses, of what a rescue or
+/// ensure part runs, and of a call that is given a literal block.
+pub fn part_frames_are_in_place()
+    ensures part { (c : Around) (s : Sight) (t : Tree) (frame : Frame) (w : World) → InPlace c s t frame w → (u : Tree) → IsPlaced c u → IsHoused s u → InPlace c s u frame w }
+    ensures loop_body { (c : Around) (s : Sight) (t : Tree) (frame : Frame) (w : World) → InPlace c s t frame w → (u : Tree) → IsPlaced (in_loop c) u → IsHoused s u → InPlace (in_loop c) s u (in_loop_of frame) w }
+    ensures clauses { (c : Around) (s : Sight) (t : Tree) (frame : Frame) (w : World) → InPlace c s t frame w → (u : Tree) (v : Value) → IsPlaced (in_clause c) u → IsHoused s u → InPlace (in_clause c) s u (handling frame v) w }
+    ensures rescue_part { (c : Around) (s : Sight) (t : Tree) (frame : Frame) (w : World) → InPlace c s t frame w → (u : Tree) (n : ℕ) → IsPlaced c u → IsHoused s u → InPlace c s u (in_sequence n frame) w }
+    ensures ensure_part { (c : Around) (s : Sight) (t : Tree) (frame : Frame) (w : World) → InPlace c s t frame w → (u : Tree) (n : ℕ) → IsPlaced (outside_clause c) u → IsHoused s u → InPlace (outside_clause c) s u (in_sequence n frame) w }
+    ensures calling { (c : Around) (s : Sight) (t : Tree) (frame : Frame) (w : World) → InPlace c s t frame w → (ks : List ℕ) → InPlace c s t (record frame { calling = ks }) w }
+{}
+
+/// Each change of a world that a run makes keeps what stands in it: other turns, cells, depth,
+/// texts, globals and steps of the trace; an object that is no class, and a class without rows; an
+/// environment that is opened; a local that is set; a block, a method and a constant that a frame
+/// in place makes; and what natives, loads and raises do to the store. So does each run of a tree
+/// that is in place, and what is in place stays so.
+pub fn changes_keep_what_stands()
+    ensures same { (w : World) → IsStored w → WorldHoused w → (z : World) → z.objects ≡ w.objects → z.environments ≡ w.environments → z.closures ≡ w.closures → StandsFrom w z }
+    ensures on { (w y z : World) → StandsFrom w y → StandsFrom y z → StandsFrom w z }
+    ensures object { (w : World) → IsStored w → WorldHoused w → (o : Object) → is_class_or_module o.kind ≡ false → StandsFrom w (with_object o w) }
+    ensures class { (w : World) → IsStored w → WorldHoused w → (c : Class) → c.methods ≡ [] → c.class_methods ≡ [] → ((p : ℕ) → is_one_of p (above_in (class_or_module c)) ≡ true → IsClass w.objects p) → StandsFrom w (with_object (new_object (class_or_module c)) w) }
+    ensures environment { (w : World) → IsStored w → WorldHoused w → (parent : Option ℕ) (locals : List (Bytes × Value)) → StandsFrom w (with_environment parent locals w) }
+    ensures local { (w : World) → IsStored w → WorldHoused w → (frame : Frame) (x : Bytes) (v : Value) → StandsFrom w (set_local frame x v w) }
+    ensures closure { (w : World) → IsStored w → WorldHoused w → (c : Around) (s : Sight) (d : Closure) → StoredIn c w.objects d → MadeIn s w.environments d → StandsFrom w (with_closure d w) }
+    ensures row { (w : World) → IsStored w → WorldHoused w → (n : ℕ) (x : Bytes) (code : Code) → IsClass w.objects n → CodeStored w.objects code → CodeHoused code → StandsFrom w (with_row n (record { name = x; body = written code }) w) }
+    ensures class_row { (w : World) → IsStored w → WorldHoused w → (n : ℕ) (x : Bytes) (code : Code) → IsClass w.objects n → CodeStored w.objects code → CodeHoused code → StandsFrom w (with_class_row n (record { name = x; body = written code }) w) }
+    ensures constant { (w : World) → IsStored w → WorldHoused w → (n : ℕ) (x : Bytes) (v : Value) → IsClass w.objects n → StandsFrom w (with_constant n x v w) }
+    ensures feature { (w : World) → IsStored w → WorldHoused w → (n : ℕ) → StandsFrom w (with_feature n w) }
+    ensures thrown { (w : World) → IsStored w → WorldHoused w → (p : Option (Bytes × ℕ)) (v : Value) → StandsFrom w (thrown p v w) }
+    ensures native { (w : World) → IsStored w → WorldHoused w → (n : Native) (self : Value) (vs : List Value) (cells : ℕ) (store : Objects) (v : Value) → native_answer n w.objects self vs ≡ itself (gives cells store v) → StandsFrom w (with_objects store w) }
+    ensures run { (c : Around) (w : World) (o : Outcome) → StoredOut c w o → HousedOut w o → StandsFrom w (world_of o) }
+    ensures in_place { (c : Around) (s : Sight) (t : Tree) (frame : Frame) (w z : World) → InPlace c s t frame w → StandsFrom w z → InPlace c s t frame z }
 {}

@@ -19,3 +19,4 @@ pub mod Spans
 pub mod SpanParts
 pub mod SpanStatements
 pub mod Nests
+pub mod PlainRuns

@@ -2,6 +2,8 @@
 //! product code.
 #![tactic(auto)]
 
+pub mod runs;
+
 ghost use Rattle.std.specs.Prelude.{◌<◌, ◌^◌, ℕ, List, nat_eq, length, false};
 ghost use Rattle.std.specs.List.{IsDistinct, AllByRecursion};
 ghost use Rattle.ruby_lexer.specs.Bytes.{Bytes};

@@ -6,7 +6,7 @@ use Rattle.compile_laws.proofs.found.bodies_of_programs_run.Goals as goal
 
 pub returns : goal.returns
 returns a = record {
-  runs = λ files path t c frame w o k s names out. runs_whole files path t c frame w o k s names out;
-  machine = λ files path t c frame w o p k s names out ts.
-      ends_so files path t (routines path t c.inner.number) frame (start_of c.inner c.tree frame.given) w o (evaluate files c.tree frame w) (runs_whole files path t c frame w p k s names out) ts;
+  runs = runs_whole;
+  machine = λ files path t c frame w o p k h ts.
+      ends_so files path t (routines path t c.inner.number) frame (start_of c.inner c.tree frame.given) w o (evaluate files c.tree frame w) (runs_whole files path t c frame w p k h) ts;
 }
