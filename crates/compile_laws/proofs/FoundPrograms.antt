@@ -42,7 +42,7 @@ module _ (path : Bytes) (t : Tree) (fm : IsFormed false t) (hs : IsHoused (file_
   known_within : AllByRecursion (IsKnown (routines path t) (bodies path t) (wheres path t) path t path (places t)) within
   known_within = (told.holds file_sees have).1
 
-  known : (c : Compiled) → In c within → IsOfProgram path t c
+  pub known : (c : Compiled) → In c within → IsOfProgram path t c
   known c i =
       let k : IsKnown (routines path t) (bodies path t) (wheres path t) path t path (places t) c = of_all _ within c known_within i in
       record { numbered = ap (sequence_at path t) k.number ∙ at_number c i; place = k.place; in_file = k.path; in_places = k.places; sees = k.sees; stands = k.stands; body = k.body }

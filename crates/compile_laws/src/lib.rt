@@ -7,3 +7,4 @@ pub mod calls;
 pub mod found;
 pub mod frames;
 pub mod sound;
+pub mod soundness;
