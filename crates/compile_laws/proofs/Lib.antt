@@ -17,3 +17,4 @@ pub mod ClassesCome
 pub mod StepsCome
 pub mod FramesBegin
 pub mod FrameTurns
+pub mod Headers
