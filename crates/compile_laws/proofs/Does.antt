@@ -24,7 +24,7 @@ use Rattle.ruby_meaning.specs.Files.{Files}
 use Rattle.ruby_meaning.specs.Invoke.{call_method}
 use Rattle.ruby_meaning.specs.Definitions.{read_local, set_local, read_global, fixed_global, set_goals, set_global_if, with_global, name_cost, with_constant, set_goal, path_from, path_around, closure_here, with_closure, class_number, code_of, with_row, with_class_row, define_on, define_method}
 use Rattle.ruby_meaning.specs.ClassBodies.{class_alone, module_alone, same_class, class_frame, open_class, make_class, refused, open_found, class_or_new, module_or_new, if_same_superclass, below_base, with_base, class_below, class_named, module_of_name}
-use Rattle.ruby_meaning.specs.Levels.{Scopes, GoalHeld, GoalsHeld, NameHeld, is_held, level_of, slot_of}
+use Rattle.ruby_meaning.specs.Levels.{Scopes, AllHeld, GoalHeld, GoalsHeld, NameHeld, is_held, level_of, slot_of}
 use Rattle.ruby_meaning.specs.Parts.{parts_of, piece_found, piece_of, make_joined, make_array, make_hash, make_range, of_values, leave_home, leave_block, leave_loop, given_value, match_found, match_class, handling, in_sequence}
 use Rattle.ruby_meaning.specs.Evaluation.{run_patterns, run_whens, run_any, run_tests, unless_nil, run_pairs, run_pieces, set_by_send, loop, set_exception, with_block, send_with, super_with, super_to, run, run_form, run_all, run_trees, run_other, run_last, run_receiver, run_given_value, run_clauses, run_clause, run_classes}
 use Rattle.code_meaning.specs.Code.{at_line, Routine, rows_at, Shape, done, op, ahead, part, size, Placed, finish}
@@ -36,7 +36,7 @@ use Rattle.code_meaning.proofs.Placing.{placed}
 use Rattle.compile_table.specs.Shapes as table
 use Rattle.compile_table.specs.Shapes.{Where, looped, line_or, line_at, own, start, count, is_self_form, self_flag, receiver_flag, value_flag, bare_flag, plain_send, number_of, with_literal, path_start, throw_by, named, in_rescue, in_ensure, get_local, shape, form_shape, count_pairs, pairs_shape, params_shape, all_shape, rest_shape, args_shape, path_shape, receiver_shape, value_shape, other_shape, last_shape, values_shape, clauses_shape, clause_shape, classes_shape, bodies_shape}
 use Rattle.compile_laws.specs.Likeness.{with_flag}
-use Rattle.compile_laws.specs.Finds.{part_routine, FindsBlock, Finds, FindsForm, AllHeld, FindsPairs, FindsPieces, FindsWhens, FindsTrees, FindsOther, FindsRescue, FindsRescueForm, FindsEnsure, FindsEnsureForm, FindsClauses, StandsIn}
+use Rattle.compile_laws.specs.Finds.{part_routine, FindsBlock, Finds, FindsForm, FindsPairs, FindsPieces, FindsWhens, FindsTrees, FindsOther, FindsRescue, FindsRescueForm, FindsEnsure, FindsEnsureForm, FindsClauses, StandsIn}
 use Rattle.compile_laws.proofs.AlikeCalls.{raising_same, no_method_same, range_same, path_same, around_same, goal_same, method_defined_same, open_same, class_named_same, class_below_same, module_same, home_same, leave_same, given_same, given_block_same, call_same, super_same}
 use Rattle.compile_laws.proofs.After.{deeper_pending, leap_ahead, Pending, After, here, go, pend, answers, after_then}
 use Rattle.compile_laws.proofs.Ready.{Ready, KeepsReady}

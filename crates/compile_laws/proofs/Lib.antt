@@ -11,6 +11,12 @@ pub mod RowsTrees
 pub mod RisingRow
 pub mod Keeps
 pub mod BodyRuns
+pub mod ByPlaces
+pub mod FoundTrees
+pub mod FoundPrograms
+pub mod ProgramsRun
+pub mod ReadText
+pub mod Units
 pub mod Enters
 pub mod CallsCome
 pub mod ClassesCome

@@ -1,12 +1,12 @@
 -- What is found by the numbers of sequences: the rescue and ensure parts of a tree, and the blocks, methods and classes in it.
-use Rattle.std.specs.Prelude.{◌≡◌, ℕ, zero, suc, ◌+◌, true, List, [], ◌∷◌, ⊤}
+use Rattle.std.specs.Prelude.{◌≡◌, ℕ, zero, suc, ◌+◌, true, List, ⊤}
 use Rattle.ruby_tree.specs.Names.{Bytes}
 use Rattle.ruby_tree.specs.Tree.{Tree, at, Form, nil_value, true_value, false_value, integer, symbol, text, self_value, file_name, folder_name, line_number, local, instance, global, joined, array, hash, range, constant_path, assign, assign_all, assign_attribute, assign_index, operate_attribute, or_attribute, and_attribute, operate_index, or_index, and_index, send, safe_send, yield, super, bare_super, bare_raise, statements, both, either, negated, if_else, while_loop, case_of, case_tests, return_with, break_with, next_with, retry, rescue, ensure, rescue_sequence, ensure_sequence, method, class, module_named, body, Trees, no_more, more, Other, without, with, Pairs, no_pair, pair, Pieces, no_piece, plain_piece, code_piece, Whens, no_when, when, Rescues, no_clause, clause, Params, no_param, required, optional, rest_param, block_param}
 use Rattle.iseq_types.specs.declared.sequences.SeqKind.{SeqKind}
 use Rattle.iseq_types.specs.declared.sequences.SeqKind.TheVariants as kinds
 use Rattle.ruby_meaning.specs.Locals.{params_of, names_of_params}
 use Rattle.ruby_meaning.specs.World.{Frame}
-use Rattle.ruby_meaning.specs.Levels.{Sight, Held, GoalHeld, GoalsHeld, NameHeld}
+use Rattle.ruby_meaning.specs.Levels.{Held, AllHeld, GoalHeld, GoalsHeld, NameHeld}
 use Rattle.code_meaning.specs.Code.{Routine, finish}
 use Rattle.compile_table.specs.Shapes.{Where, looped, number_of, in_rescue, in_ensure, shape}
 use Rattle.compile_table.specs.Sequences.{body_sequence, part_sequence}
@@ -17,11 +17,6 @@ body_routine l kind name t = record { kind = kind; body = body_sequence l name t
 
 abbrev pub part_routine : Where → SeqKind → Tree → Routine
 part_routine l kind t = record { kind = kind; body = part_sequence l kind t }
-
--- these locals are held
-abbrev pub AllHeld : Sight → List Bytes → Type 0
-AllHeld c [] = ⊤
-AllHeld c (x ∷ xs) = Held c x × AllHeld c xs
 
 module _ (seqs : ℕ → Routine) (bodies : ℕ → Tree) where
   -- a call with a block value has no literal block

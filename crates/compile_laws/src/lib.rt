@@ -4,5 +4,6 @@
 pub mod alike;
 pub mod bodies;
 pub mod calls;
+pub mod found;
 pub mod frames;
 pub mod sound;

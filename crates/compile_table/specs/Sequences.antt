@@ -1,5 +1,5 @@
 -- The sequences of a program, and its unit.
-use Rattle.std.specs.Prelude.{ℕ, suc, ◌+◌, nat_le, Bool, true, false, cond, List, [], ◌∷◌, ◌++◌, length, map}
+use Rattle.std.specs.Prelude.{ℕ, suc, ◌+◌, nat_le, Bool, true, false, cond, List, [], ◌∷◌, ◌++◌, length, map, get_or}
 use Rattle.ruby_tree.specs.Names.{Bytes}
 use Rattle.ruby_tree.specs.Tree.{Tree, at, Form, joined, array, hash, range, constant_path, assign, assign_all, assign_attribute, assign_index, operate_attribute, or_attribute, and_attribute, operate_index, or_index, and_index, send, safe_send, yield, super, bare_super, statements, both, either, negated, if_else, while_loop, case_of, case_tests, return_with, break_with, next_with, rescue, ensure, rescue_sequence, ensure_sequence, method, class, module_named, body, Trees, no_more, more, Other, without, with, Pairs, no_pair, pair, Pieces, no_piece, plain_piece, code_piece, Whens, no_when, when, Rescues, no_clause, clause, Params, no_param, required, optional, rest_param, block_param}
 use Rattle.iseq_types.specs.declared.sequences.SeqKind.{SeqKind}
@@ -109,19 +109,22 @@ part_sequence l kind t = record {
   code = lines_of (depth_in kind) 0 (shape l t);
 }
 
--- A sequence of a program: the place of its first token, its kind, the number of the sequence around it, and its body.
+-- A sequence of a program: the place of its first token, its kind, the number of the sequence around it, its body, where its nodes stand, and
+-- the tree that it is of.
 pub record Compiled : Type 0 where
   pub place : ℕ
   pub kind : SeqKind
   pub parent : ℕ
   pub body : Sequence
+  pub inner : Where
+  pub tree : Tree
 
 -- a body that stands where l says, and whose nodes stand where inner says
 abbrev pub compiled_body : Where → Where → SeqKind → Bytes → Tree → Compiled
-compiled_body l inner kind name t = record { place = place_of t; kind = kind; parent = l.number; body = body_sequence inner name t }
+compiled_body l inner kind name t = record { place = place_of t; kind = kind; parent = l.number; body = body_sequence inner name t; inner = inner; tree = t }
 
 abbrev pub compiled_part : Where → Where → SeqKind → Tree → Compiled
-compiled_part l inner kind t = record { place = place_of t; kind = kind; parent = l.number; body = part_sequence inner kind t }
+compiled_part l inner kind t = record { place = place_of t; kind = kind; parent = l.number; body = part_sequence inner kind t; inner = inner; tree = t }
 
 -- ---- the sequences of a tree
 
@@ -221,7 +224,14 @@ by_places (c ∷ cs) = among c (by_places cs)
 
 -- the file's own sequence
 abbrev pub compiled_file : Bytes → Tree → Compiled
-compiled_file path t = record { place = 0; kind = kinds.File; parent = 0; body = body_sequence (in_file path t) [] (file_body t) }
+compiled_file path t = record {
+  place = 0;
+  kind = kinds.File;
+  parent = 0;
+  body = body_sequence (in_file path t) [] (file_body t);
+  inner = in_file path t;
+  tree = file_body t;
+}
 
 -- The sequences of a program in the order of their numbers: the file's own, and those that stand in it by their places.
 abbrev pub sequences_of : Bytes → Tree → List Compiled
@@ -239,3 +249,16 @@ unit_with path cs = record { path = path; rows = map index_row cs; bodies = map 
 -- The unit of a program's tree.
 unfoldable pub unit_of : Bytes → Tree → CompiledUnit
 unit_of path t = unit_with path (sequences_of path t)
+
+-- ---- found by their numbers
+
+-- the sequence of a program that has a number, or else the file's own
+unfoldable pub sequence_at : Bytes → Tree → ℕ → Compiled
+sequence_at path t n = get_or (sequences_of path t) n (compiled_file path t)
+
+-- The sequences of a program by their numbers, as they run, and their trees.
+abbrev pub routines : Bytes → Tree → ℕ → Routine
+routines path t n = routine_of (sequence_at path t n)
+
+abbrev pub bodies : Bytes → Tree → ℕ → Tree
+bodies path t n = (sequence_at path t n).tree

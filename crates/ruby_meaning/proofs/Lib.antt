@@ -35,6 +35,7 @@ pub mod Start
 pub mod Ends
 pub mod StoredPrograms
 pub mod PlacedFrames
+pub mod StandingWorlds
 pub mod Constructs
 pub mod MoreTurns
 pub mod Plans

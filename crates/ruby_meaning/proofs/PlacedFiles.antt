@@ -34,15 +34,18 @@ pub prelude_placed : (t : Tree) → IsPrelude t → IsPlaced (at_home file) t
 prelude_placed t (is_read h) = placed_tree prelude_text t h
 prelude_placed t (is_unread h) = (refl, tt)
 
+pub files_of_placed : (reader : DataReader) (source : SourceTree) → ArePlaced (files_of reader source)
+files_of_placed reader source = files_placed source (files_of reader source) (files_are reader source).ruby
+
+pub prelude_of_text_is_read : IsPrelude prelude_of_text
+prelude_of_text_is_read = subst IsPrelude (sym prelude_of_text_is) is_prelude
+
+pub prelude_of_text_placed : IsPlaced (at_home file) prelude_of_text
+prelude_of_text_placed = prelude_placed prelude_of_text prelude_of_text_is_read
+
 module _ (reader : DataReader) (source : SourceTree) (p : Program) where
-  files : ArePlaced (files_of reader source)
-  files = files_placed source (files_of reader source) (files_are reader source).ruby
-
-  prelude : IsPlaced (at_home file) prelude_of_text
-  prelude = prelude_placed prelude_of_text (subst IsPrelude (sym prelude_of_text_is) is_prelude)
-
   pub plain_as : EndsAsProgram (program_run (files_of reader source) prelude_of_text p (start_world p))
-  plain_as = program_as (files_of reader source) files prelude_of_text prelude p
+  plain_as = program_as (files_of reader source) (files_of_placed reader source) prelude_of_text prelude_of_text_placed p
 
   pub plain_stored : IsStored (world_of (program_run (files_of reader source) prelude_of_text p (start_world p)))
-  plain_stored = program_stored (files_of reader source) files prelude_of_text prelude p
+  plain_stored = program_stored (files_of reader source) (files_of_placed reader source) prelude_of_text prelude_of_text_placed p

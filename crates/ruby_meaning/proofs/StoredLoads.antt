@@ -44,7 +44,7 @@ module _ (asked : Type 0) where
   moves_written true f w s = moves_same asked w (written_out true f w) refl refl refl s
   moves_written false f w s = moves_same asked w (written_out false f w) refl refl refl s
 
-  moves_thrown : (p : Option (Bytes × ℕ)) (v : Value) (w : World) → Good asked w → Moves asked w (thrown p v w)
+  pub moves_thrown : (p : Option (Bytes × ℕ)) (v : Value) (w : World) → Good asked w → Moves asked w (thrown p v w)
   moves_thrown p (object n) w s = moves_objects asked w (thrown p (object n) w) (keeps_thrown asked p n w.objects) refl refl s
   moves_thrown p nil w s = moves_same asked w w refl refl refl s
   moves_thrown p yes w s = moves_same asked w w refl refl refl s
@@ -52,7 +52,7 @@ module _ (asked : Type 0) where
   moves_thrown p (number i) w s = moves_same asked w w refl refl refl s
   moves_thrown p (symbol_named x) w s = moves_same asked w w refl refl refl s
 
-  moves_feature : (n : ℕ) (w : World) → Good asked w → Moves asked w (with_feature n w)
+  pub moves_feature : (n : ℕ) (w : World) → Good asked w → Moves asked w (with_feature n w)
   moves_feature n w s =
       let vs : List Value = elements_in (kind_at w.objects features) ++ object n ∷ [] in
       moves_objects asked w (with_feature n w) (keeps_kind asked w.objects features (elements vs) (store_with_kind w.objects features (elements vs) (sym s.other) (λ p h. absurd (false≢true h))) refl) refl refl s

@@ -47,7 +47,7 @@ module _ (asked : Type 0) where
   pub moves_local : (frame : Frame) (x : Bytes) (v : Value) (w : World) → Good asked w → Moves asked w (set_local frame x v w)
   moves_local frame x v w s = moves_rooms asked w (set_local frame x v w) (objects_same x v (holder frame x w) w) (λ g. ((keeps_set_local frame frame x v).leads w).stay) (closures_same x v (holder frame x w) w) s
 
-  moves_constant : (n : ℕ) (x : Bytes) (v : Value) (w : World) → IsClass w.objects n → Good asked w → Moves asked w (with_constant n x v w)
+  pub moves_constant : (n : ℕ) (x : Bytes) (v : Value) (w : World) → IsClass w.objects n → Good asked w → Moves asked w (with_constant n x v w)
   moves_constant n x v w is s = moves_objects asked w (with_constant n x v w) (keeps_constants asked w.objects n (with_name x v (class_at w.objects n).constants) is) refl refl s
 
 -- Numbers that are found to be classes.

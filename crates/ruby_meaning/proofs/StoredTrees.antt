@@ -38,7 +38,7 @@ closures_push so [] d h g = (g, tt)
 closures_push so (x ∷ all) d h g = (h.0, closures_push so all d h.1 g)
 
 module _ (asked : Type 0) where
-  moves_closure : (d : Closure) (w : World) → GoodClosure asked w.objects w.environments d → Good asked w → Moves asked w (with_closure d w)
+  pub moves_closure : (d : Closure) (w : World) → GoodClosure asked w.objects w.environments d → Good asked w → Moves asked w (with_closure d w)
   moves_closure d w h s = record {
     leads = record { store = store_same w.objects; rooms = λ g. all_stay w.environments };
     good = good_on asked w (with_closure d w) (keeps_same asked w.objects) (closures_push (GoodClosure asked w.objects w.environments) w.closures d s.closures h) s;
@@ -177,7 +177,7 @@ module _ (asked : Type 0) (files : Files) (are : ArePlaced files) (held : asked 
     keep_form c y (super ts ks v t) s frame e p j =
         keep_trees c y ts frame [] _ p.0 (λ g. (j g).0) (λ vs. keep_block_value c y v frame s.line frame.block _ p.1.0 (λ g. (j g).1.0) (λ given. keep_reading (in_frame asked c y frame) c (spread ks vs) _ (λ us. keep_super_to c y frame.method frame s.line t given us p.1.1 (λ g. (j g).1.1))))
     keep_form c y (bare_super t) s frame e p j =
-        keep_reading (in_frame asked c y frame) c (λ w. map (λ x. read_local frame x w) (names_of_params (params_of frame.code.body))) _ (λ vs. keep_super_to c y frame.method frame s.line t frame.block vs p j)
+        keep_reading (in_frame asked c y frame) c (λ w. map (λ x. read_local frame x w) (names_of_params (params_of frame.code.body))) _ (λ vs. keep_super_to c y frame.method frame s.line t frame.block vs p (λ g. (j g).1))
     keep_form c y bare_raise s frame e p j = sends c y frame s.line frame.self_value (codes "raise") (frame.handled ∷ [])
     keep_form c y (statements ts) s frame e p j = keep_all c y ts frame nil p j
     keep_form c y (both a d) s frame e p j = keep_then (in_frame asked c y frame) c _ _ (keep_run c y a frame p.0 (λ g. (j g).0)) (λ v. keep_choose (in_frame asked c y frame) c (is_true v) _ _ (keep_run c y d frame p.1 (λ g. (j g).1)) (keep_done (in_frame asked c y frame) c v))

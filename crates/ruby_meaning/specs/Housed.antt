@@ -8,6 +8,7 @@ use Rattle.ruby_meaning.specs.Value.{Code}
 use Rattle.ruby_meaning.specs.Locals.{locals_of}
 use Rattle.ruby_meaning.specs.World.{Environment, Closure, World, Frame, Outcome, Run, world_of}
 use Rattle.ruby_meaning.specs.Files.{Files, ruby_tree}
+use Rattle.ruby_meaning.specs.ClassGraph.{StoreLeads}
 use Rattle.ruby_meaning.specs.Laws.{EnvironmentsStay}
 use Rattle.ruby_meaning.specs.Levels.{Sight, file_sight, body_sight, names_seen, block_sight, IsHoused}
 use Rattle.ruby_meaning.specs.InSight.{HaveNames, InSight}
@@ -40,6 +41,14 @@ pub record WorldHoused (w : World) : Type 0 where
 pub record HousedOut (w : World) (o : Outcome) : Type 0 where
   pub stay : EnvironmentsStay w.environments (world_of o).environments
   pub housed : WorldHoused (world_of o)
+
+-- What a change of a world keeps in which all stands: what was known of classes stays, environments keep their parents and names, and all that
+-- stands behind it is stored and housed.
+pub record StandsFrom (w z : World) : Type 0 where
+  pub leads : StoreLeads w.objects z.objects
+  pub stay : EnvironmentsStay w.environments z.environments
+  pub stored : IsStored z
+  pub housed : WorldHoused z
 
 -- A tree that may be evaluated in this frame from this world: it is placed where the frame fits and housed in what is in the frame's sight, and
 -- the world is one that a run of such trees can reach.

@@ -3,7 +3,7 @@ use Rattle.std.specs.Prelude.{◌≡◌, ℕ, suc, Bool, true, false, cond, ◌|
 use Rattle.ruby_lexer.specs.Bytes.{same, is_in}
 use Rattle.ruby_tree.specs.Names.{Bytes}
 use Rattle.ruby_tree.specs.Tree.{Goal, to_local, to_instance, to_global, to_constant, Tree, at, Form, local, joined, array, hash, range, constant_path, assign, assign_all, assign_attribute, assign_index, operate_attribute, or_attribute, and_attribute, operate_index, or_index, and_index, send, safe_send, yield, super, bare_super, statements, both, either, negated, if_else, while_loop, case_of, case_tests, return_with, break_with, next_with, rescue, ensure, rescue_sequence, ensure_sequence, method, class, module_named, body, Trees, no_more, more, Other, without, with, Pairs, no_pair, pair, Pieces, no_piece, plain_piece, code_piece, Whens, no_when, when, Rescues, no_clause, clause, Params, no_param, required, optional, rest_param, block_param}
-use Rattle.ruby_meaning.specs.Locals.{place_of, locals_of, seen_by}
+use Rattle.ruby_meaning.specs.Locals.{place_of, params_of, names_of_params, locals_of, seen_by}
 use Rattle.ruby_meaning.specs.Loads.{file_body}
 
 -- The names of environments outward, the innermost first.
@@ -56,6 +56,11 @@ block_sight c t = record { body = t; seen = names_seen c t; scopes = locals_of (
 abbrev pub Held : Sight → Bytes → Type 0
 Held c x = is_held x c.scopes ≡ true
 
+-- each of the names is held
+abbrev pub AllHeld : Sight → List Bytes → Type 0
+AllHeld c [] = ⊤
+AllHeld c (x ∷ xs) = Held c x × AllHeld c xs
+
 abbrev pub GoalHeld : Sight → Goal → Type 0
 GoalHeld c (to_local x) = Held c x
 GoalHeld c (to_instance x) = ⊤
@@ -96,7 +101,8 @@ abbrev mutual
   FormHoused c (safe_send a ts ks v n b) = IsHoused c a × (TreesHoused c ts × (OtherHoused c v × BlockHoused c b))
   FormHoused c (yield ts ks) = TreesHoused c ts
   FormHoused c (super ts ks v b) = TreesHoused c ts × (OtherHoused c v × BlockHoused c b)
-  FormHoused c (bare_super b) = BlockHoused c b
+  -- it hands on what the parameters of the body in sight are now
+  FormHoused c (bare_super b) = AllHeld c (names_of_params (params_of c.body)) × BlockHoused c b
   FormHoused c (statements ts) = TreesHoused c ts
   FormHoused c (both a b) = IsHoused c a × IsHoused c b
   FormHoused c (either a b) = IsHoused c a × IsHoused c b

@@ -5,13 +5,18 @@ ghost use Rattle.ruby_tree.specs.Names.{Bytes};
 ghost use Rattle.ruby_tree.specs.Tree.{SourcePosition, Tree, at, super, bare_super, return_with, break_with, while_loop, rescue, Trees, Other};
 ghost use Rattle.ruby_tree.specs.Placement.{Around, in_loop, in_block, in_clause, outside_clause, at_home, file};
 ghost use Rattle.ruby_tree.specs.Placement as placement;
-ghost use Rattle.ruby_meaning.specs.Value.{Value, Code, written, Objects};
-ghost use Rattle.ruby_meaning.specs.Store.{cell_limit, each_once, line_of, superclasses, Place, rows_of, Found, find_in};
-ghost use Rattle.ruby_meaning.specs.World.{in_class, Given, Running, Closure, World, Frame, to_loop, Break, Spent, Run, world_of};
+ghost use Rattle.ruby_meaning.specs.Value.{Value, Code, written, Class, class_or_module, Object, Objects};
+ghost use Rattle.ruby_meaning.specs.NativeName.{Native};
+ghost use Rattle.ruby_meaning.specs.Native.{gives};
+ghost use Rattle.ruby_meaning.specs.NativeAnswer.{itself, native_answer};
+ghost use Rattle.ruby_meaning.specs.Steps.{with_objects, with_object};
+ghost use Rattle.ruby_meaning.specs.Invoke.{thrown};
+ghost use Rattle.ruby_meaning.specs.Store.{cell_limit, each_once, line_of, superclasses, is_one_of, new_object, is_class_or_module, Place, rows_of, Found, find_in};
+ghost use Rattle.ruby_meaning.specs.World.{in_class, Given, Running, Closure, World, Frame, to_loop, Outcome, Break, Spent, Run, world_of};
 ghost use Rattle.ruby_meaning.specs.Locals.{params_of, locals_of};
 ghost use Rattle.ruby_meaning.specs.Calls.{bound, all_nil, with_names, with_environment, next_environment, method_frame, block_frame};
-ghost use Rattle.ruby_meaning.specs.Loads.{file_body, file_code, file_frame};
-ghost use Rattle.ruby_meaning.specs.Definitions.{code_of, closure_here};
+ghost use Rattle.ruby_meaning.specs.Loads.{file_body, file_code, file_frame, with_feature};
+ghost use Rattle.ruby_meaning.specs.Definitions.{set_local, with_constant, code_of, closure_here, with_closure, with_row, with_class_row};
 ghost use Rattle.ruby_meaning.specs.ClassBodies.{class_frame};
 ghost use Rattle.ruby_meaning.specs.Files.{Files};
 ghost use Rattle.ruby_meaning.specs.Parts.{in_loop_of, in_sequence, handling};
@@ -19,10 +24,10 @@ ghost use Rattle.ruby_meaning.specs.Evaluation.{run, eval, evaluate, loop, rescu
 ghost use Rattle.ruby_meaning.specs.Constructs.{ReadsAsTable, body_of};
 ghost use Rattle.ruby_meaning.specs.PlainRun.{Program, IsPrelude, prelude_of_text, program_run, start_world, plain_run};
 ghost use Rattle.ruby_meaning.specs.FilesOf.{DataReader, IsRubyFile, files_of};
-ghost use Rattle.ruby_meaning.specs.ClassGraph.{IsGraph, StoreLeads};
+ghost use Rattle.ruby_meaning.specs.ClassGraph.{above_in, IsGraph, StoreLeads};
 ghost use Rattle.reference_laws.specs.Placed.{home_of, IsPlaced};
-ghost use Rattle.ruby_meaning.specs.Stored.{IsClass, AreClasses, class_of_place, CodeStored, StoredIn, ClosureStored, IsStored, FrameFits, PlacedOut, StaysStored, ArePlaced, EndsAsProgram};
-ghost use Rattle.ruby_meaning.specs.Housed.{CodeHoused, MadeIn, ClosureHoused, WorldHoused, InPlace, StaysHoused, AreHoused};
+ghost use Rattle.ruby_meaning.specs.Stored.{IsClass, AreClasses, class_of_place, CodeStored, StoredIn, ClosureStored, IsStored, FrameFits, PlacedOut, StoredOut, StaysStored, ArePlaced, EndsAsProgram};
+ghost use Rattle.ruby_meaning.specs.Housed.{CodeHoused, MadeIn, ClosureHoused, WorldHoused, HousedOut, StandsFrom, InPlace, StaysHoused, AreHoused};
 ghost use Rattle.ruby_meaning.specs.RunLaws.{GainsNone, loop_turn, rescue_turn, last_of, Allowed, EndsOutside};
 ghost use Rattle.ruby_meaning.specs.Laws.{names_in, Grows, IsSound, EnvironmentsStay, ClosuresStay, given, given_out, IsOver, given_program, HasEnded};
 ghost use Rattle.ruby_meaning.specs.Levels.{Scopes, Sight, file_sight, body_sight, block_sight, IsHoused};
@@ -195,4 +200,27 @@ pub fn part_frames_are_in_place()
     ensures rescue_part { (c : Around) (s : Sight) (t : Tree) (frame : Frame) (w : World) → InPlace c s t frame w → (u : Tree) (n : ℕ) → IsPlaced c u → IsHoused s u → InPlace c s u (in_sequence n frame) w }
     ensures ensure_part { (c : Around) (s : Sight) (t : Tree) (frame : Frame) (w : World) → InPlace c s t frame w → (u : Tree) (n : ℕ) → IsPlaced (outside_clause c) u → IsHoused s u → InPlace (outside_clause c) s u (in_sequence n frame) w }
     ensures calling { (c : Around) (s : Sight) (t : Tree) (frame : Frame) (w : World) → InPlace c s t frame w → (ks : List ℕ) → InPlace c s t (record frame { calling = ks }) w }
+{}
+
+/// Each change of a world that a run makes keeps what stands in it: other turns, cells, depth,
+/// texts, globals and steps of the trace; an object that is no class, and a class without rows; an
+/// environment that is opened; a local that is set; a block, a method and a constant that a frame
+/// in place makes; and what natives, loads and raises do to the store. So does each run of a tree
+/// that is in place, and what is in place stays so.
+pub fn changes_keep_what_stands()
+    ensures same { (w : World) → IsStored w → WorldHoused w → (z : World) → z.objects ≡ w.objects → z.environments ≡ w.environments → z.closures ≡ w.closures → StandsFrom w z }
+    ensures on { (w y z : World) → StandsFrom w y → StandsFrom y z → StandsFrom w z }
+    ensures object { (w : World) → IsStored w → WorldHoused w → (o : Object) → is_class_or_module o.kind ≡ false → StandsFrom w (with_object o w) }
+    ensures class { (w : World) → IsStored w → WorldHoused w → (c : Class) → c.methods ≡ [] → c.class_methods ≡ [] → ((p : ℕ) → is_one_of p (above_in (class_or_module c)) ≡ true → IsClass w.objects p) → StandsFrom w (with_object (new_object (class_or_module c)) w) }
+    ensures environment { (w : World) → IsStored w → WorldHoused w → (parent : Option ℕ) (locals : List (Bytes × Value)) → StandsFrom w (with_environment parent locals w) }
+    ensures local { (w : World) → IsStored w → WorldHoused w → (frame : Frame) (x : Bytes) (v : Value) → StandsFrom w (set_local frame x v w) }
+    ensures closure { (w : World) → IsStored w → WorldHoused w → (c : Around) (s : Sight) (d : Closure) → StoredIn c w.objects d → MadeIn s w.environments d → StandsFrom w (with_closure d w) }
+    ensures row { (w : World) → IsStored w → WorldHoused w → (n : ℕ) (x : Bytes) (code : Code) → IsClass w.objects n → CodeStored w.objects code → CodeHoused code → StandsFrom w (with_row n (record { name = x; body = written code }) w) }
+    ensures class_row { (w : World) → IsStored w → WorldHoused w → (n : ℕ) (x : Bytes) (code : Code) → IsClass w.objects n → CodeStored w.objects code → CodeHoused code → StandsFrom w (with_class_row n (record { name = x; body = written code }) w) }
+    ensures constant { (w : World) → IsStored w → WorldHoused w → (n : ℕ) (x : Bytes) (v : Value) → IsClass w.objects n → StandsFrom w (with_constant n x v w) }
+    ensures feature { (w : World) → IsStored w → WorldHoused w → (n : ℕ) → StandsFrom w (with_feature n w) }
+    ensures thrown { (w : World) → IsStored w → WorldHoused w → (p : Option (Bytes × ℕ)) (v : Value) → StandsFrom w (thrown p v w) }
+    ensures native { (w : World) → IsStored w → WorldHoused w → (n : Native) (self : Value) (vs : List Value) (cells : ℕ) (store : Objects) (v : Value) → native_answer n w.objects self vs ≡ itself (gives cells store v) → StandsFrom w (with_objects store w) }
+    ensures run { (c : Around) (w : World) (o : Outcome) → StoredOut c w o → HousedOut w o → StandsFrom w (world_of o) }
+    ensures in_place { (c : Around) (s : Sight) (t : Tree) (frame : Frame) (w z : World) → InPlace c s t frame w → StandsFrom w z → InPlace c s t frame z }
 {}

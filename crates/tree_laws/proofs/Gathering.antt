@@ -32,13 +32,13 @@ one_holds true b l r h = l refl
 one_holds false b l r h = r h
 
 -- each of the names is held
-abbrev pub AllHeld : Sight → List Bytes → Type 0
-AllHeld c xs = (x : Bytes) → is_in x xs ≡ true → Held c x
+abbrev pub NamesHeld : Sight → List Bytes → Type 0
+NamesHeld c xs = (x : Bytes) → is_in x xs ≡ true → Held c x
 
 pub held_same : (c : Sight) (x y : Bytes) → Held c x → same y x ≡ true → Held c y
 held_same c x y h e = ap (λ z. is_held z c.scopes) (same_is y x e) ∙ h
 
-pub held_both : (c : Sight) (xs ys : List Bytes) → AllHeld c xs → AllHeld c ys → AllHeld c (xs ++ ys)
+pub held_both : (c : Sight) (xs ys : List Bytes) → NamesHeld c xs → NamesHeld c ys → NamesHeld c (xs ++ ys)
 held_both c xs ys h i x e = one_holds (is_in x xs) (is_in x ys) (h x) (i x) (sym (list_any-append (same x) xs ys) ∙ e)
 
 -- a name that is set
@@ -50,7 +50,7 @@ there : (x : Bytes) (xs : List Bytes) (b : Bool) → is_in x xs ≡ b → is_in 
 there x xs true e = e
 there x xs false e = list_any-append (same x) xs (x ∷ []) ∙ or_right (is_in x xs) (is_in x (x ∷ [])) (or_left (same x x) false (itself x))
 
-set_held : (c : Sight) (x : Bytes) (xs : List Bytes) (b : Bool) → Held c x → AllHeld c xs → AllHeld c (cond b xs (xs ++ x ∷ []))
+set_held : (c : Sight) (x : Bytes) (xs : List Bytes) (b : Bool) → Held c x → NamesHeld c xs → NamesHeld c (cond b xs (xs ++ x ∷ []))
 set_held c x xs true k h = h
 set_held c x xs false k h = held_both c xs (x ∷ []) h (λ y e. one_holds (same y x) false (held_same c x y k) (λ i. absurd cc) e)
 
@@ -59,12 +59,12 @@ pub record Run (c : Sight) (f : Gather) (K : Type 0) (xs : List Bytes) : Type 0 
   pub names : List Bytes
   pub is : f (so_far xs) ≡ so_far names
   pub kept : (x : Bytes) → is_in x xs ≡ true → is_in x names ≡ true
-  pub known : AllHeld c names → K
+  pub known : NamesHeld c names → K
 
 -- The same for any names; and what g gathers up to another place is known, too.
 pub record Part (c : Sight) (f g : Gather) (K : Type 0) : Type 0 where
   pub runs : (xs : List Bytes) → Run c f K xs
-  pub within : K → (all : Gathered) → AllHeld c (names_in all) → AllHeld c (names_in (g all))
+  pub within : K → (all : Gathered) → NamesHeld c (names_in all) → NamesHeld c (names_in (g all))
 
 module _ {c : Sight} where
   none : Part c (λ all. all) (λ all. all) ⊤
@@ -99,7 +99,7 @@ module _ {c : Sight} where
       runs : (xs : List Bytes) → Run c (with_local x) (Held c x) xs
       runs xs = record { names = cond (is_in x xs) xs (xs ++ x ∷ []); is = refl; kept = λ y e. added x y xs (is_in x xs) e; known = λ h. h x (there x xs (is_in x xs) refl) }
 
-      within : Held c x → (all : Gathered) → AllHeld c (names_in all) → AllHeld c (names_in (with_local x all))
+      within : Held c x → (all : Gathered) → NamesHeld c (names_in all) → NamesHeld c (names_in (with_local x all))
       within k (so_far xs) h = set_held c x xs (is_in x xs) k h
       within k (reached xs) h = h
 
@@ -136,7 +136,7 @@ module _ (c : Sight) (top q : ℕ) where
   block_runs true e k xs = absurd cc
   block_runs false e k xs = record { names = xs; is = refl; kept = λ x e. e; known = λ h. k }
 
-  block_within : (b : Bool) (all : Gathered) → AllHeld c (names_in all) → AllHeld c (names_in (at_block b all))
+  block_within : (b : Bool) (all : Gathered) → NamesHeld c (names_in all) → NamesHeld c (names_in (at_block b all))
   block_within true (so_far xs) h = h
   block_within true (reached xs) h = h
   block_within false (so_far xs) h = h

@@ -9,7 +9,7 @@ use Rattle.ruby_tree.specs.Build.{Given, alone, symbol_block, or_empty, call_for
 use Rattle.ruby_tree.specs.Grammar.{Rels, BlockParams, Bars, ExceptionName, MoreTargets, Targets, Several, Element, Elements, Pair, PairList, Passed, Items, InBrackets, CommandItems, Classes, Clauses, Else, Rescued, Body, DoBlock, Block, CallBlock, CommandBlock, CallItems, TextParts, ElseBranches, WhenList, MethodParams, ParameterList, Parameters, Superclass, Literal, Primary, Postfixes, Postfix}
 use Rattle.ruby_tree.specs.Grammar as g
 use Rattle.ruby_meaning.specs.Levels.{Sight, NameHeld, GoalsHeld}
-use Rattle.tree_laws.proofs.Housing.{Housing, HousedTree, HousedTrees, HousedOther, HousedBlock, HousedPairs, HousedPieces, HousedWhens, HousedClauses, HousedParams, still, ◌⊕◌, ◌⊗◌, name_housed, goal_housed, local_housed, without_block, alone_given, symbol_gone, block_housed, body_housed}
+use Rattle.tree_laws.proofs.Housing.{Housing, HousedTree, HousedTrees, HousedOther, HousedBlock, HousedPairs, HousedPieces, HousedWhens, HousedClauses, HousedParams, still, ◌⊕◌, ◌⊗◌, name_housed, goal_housed, local_housed, without_block, alone_given, symbol_gone, params_housed, block_housed, body_housed}
 
 pub record Houses (R : Rels) : Type 0 where
   pub stmts : {d : DoBlockOwner} {w r : Toks} {s z : Scope} {t : Tree} → R.stmts d w s t r z → HousedTree s.locals t z.locals
@@ -251,7 +251,7 @@ module _ (source : Bytes) where
     house_primary (g.Primary.top_constant h i) = still
     house_primary (g.Primary.bare_yield h i j) = still
     house_primary (g.Primary.called_yield {g = c} h i j k) = let a = house_in_brackets j in alone_given c.value c.block k a.trees a.value a.block
-    house_primary (g.Primary.super_alone h i j k) = house_call_block k still
+    house_primary (g.Primary.super_alone h i j k) = params_housed (house_call_block k still)
     house_primary (g.Primary.called_super h i j k) = let a = house_in_brackets j in a.trees ⊕ (a.value ⊕ house_call_block k a.block)
     house_primary (g.Primary.if_form h i j k n m) = S.expr i ⊕ (S.stmts k ⊕ S.else_branches n)
     house_primary (g.Primary.unless_form {e = other} h i j k n m) = S.expr i ⊕ (S.stmts k ⊗ or_empty_housed other (S.else_branches n))

@@ -4,27 +4,28 @@ use Rattle.std.proofs.Common.{◌≡◌, ◌∙◌, ℕ, ◌^◌, Bool, true, fa
 use Rattle.std.specs.Prelude.{⊤}
 use Rattle.std.proofs.lemmas.List.Folds.{list_any-append}
 use Rattle.ruby_lexer.specs.Bytes.{Bytes, same, is_in}
-use Rattle.ruby_tree.specs.Tree.{SourcePosition, Goal, to_local, to_instance, to_global, to_constant, Tree, at, symbol, body, Trees, Other, without, with, Pairs, Pieces, Whens, Rescues, Params}
+use Rattle.ruby_tree.specs.Tree.{SourcePosition, Goal, to_local, to_instance, to_global, to_constant, Tree, at, symbol, body, Trees, Other, without, with, Pairs, Pieces, Whens, Rescues, Params, no_param, required, optional, rest_param, block_param}
 use Rattle.ruby_tree.specs.Rules.{Scope, declared}
 use Rattle.ruby_tree.specs.Build.{is_there, symbol_of, read_form}
 use Rattle.ruby_meaning.specs.Locals.{place_of, params_of, names_of_params, so_far, names_in, of_tree, without_names, locals_of, seen_by}
 use Rattle.ruby_meaning.specs.Sequences.{places}
-use Rattle.ruby_meaning.specs.Levels.{Scopes, is_held, Sight, body_sight, block_sight, names_seen, Held, GoalHeld, IsHoused, FormHoused, BlockHoused, TreesHoused, OtherHoused, PairsHoused, PiecesHoused, WhensHoused, ClausesHoused, ParamsHoused}
+use Rattle.ruby_meaning.specs.Levels.{Scopes, is_held, Sight, body_sight, block_sight, names_seen, Held, AllHeld, GoalHeld, IsHoused, FormHoused, BlockHoused, TreesHoused, OtherHoused, PairsHoused, PiecesHoused, WhensHoused, ClausesHoused, ParamsHoused}
 use Rattle.tree_laws.proofs.Known.{Absent, Shaped, FormShaped, TreesShaped, OtherShaped, BlockShaped, PairsShaped, PiecesShaped, WhensShaped, ClausesShaped, ParamsShaped, BlockKnown, Known, FormKnown, TreesKnown, OtherKnown, PairsKnown, PiecesKnown, WhensKnown, ClausesKnown, ParamsKnown}
-use Rattle.tree_laws.proofs.Gathering.{same_is, itself, or_left, or_right, one_holds, AllHeld, held_same, held_both, tree_part}
+use Rattle.tree_laws.proofs.Gathering.{same_is, itself, or_left, or_right, one_holds, NamesHeld, held_same, held_both, tree_part}
 
 -- no sequence begins so far behind
 abbrev pub top : ℕ
 top = 2 ^ 64
 
--- The names that any block in the body would see are held.
-abbrev pub Sound : Sight → Type 0
-Sound c = (q : ℕ) → AllHeld c (seen_by c.seen c.body q)
+-- The names that any block in the body would see are held, and those of its parameters.
+pub record Sound (c : Sight) : Type 0 where
+  pub seen : (q : ℕ) → NamesHeld c (seen_by c.seen c.body q)
+  pub params : AllHeld c (names_of_params (params_of c.body))
 
 -- from the locals s to the locals z
 pub record Housing (s : List Bytes) (L : Type 0) (K H : Sight → Type 0) (z : List Bytes) : Type 0 where
   pub shape : L
-  pub is : (c : Sight) → Sound c → AllHeld c s → K c → H c × AllHeld c z
+  pub is : (c : Sight) → Sound c → NamesHeld c s → K c → H c × NamesHeld c z
 
 abbrev pub HousedTree : List Bytes → Tree → List Bytes → Type 0
 HousedTree s t z = Housing s (Shaped t) (λ c. Known top c t) (λ c. IsHoused c t) z
@@ -76,7 +77,7 @@ between a =
 
 -- Names.
 
-held_first : (c : Sight) (x : Bytes) (s : List Bytes) → Held c x → AllHeld c s → AllHeld c (x ∷ s)
+held_first : (c : Sight) (x : Bytes) (s : List Bytes) → Held c x → NamesHeld c s → NamesHeld c (x ∷ s)
 held_first c x s h e y i = one_holds (same y x) (is_in y s) (held_same c x y h) (e y) i
 
 pub name_housed : {s : List Bytes} (x : Bytes) → Housing s ⊤ (λ c. Held c x) (λ c. Held c x) (x ∷ s)
@@ -115,6 +116,10 @@ pub symbol_gone : {s z : List Bytes} (a : Tree) (m : Bytes) → symbol_of a ≡ 
 symbol_gone (at o (symbol f)) m h a = record { shape = tt; is = λ c o e k. (tt, (a.is c o e tt).1) }
 symbol_gone (at o f) m h a = absurd cc
 
+-- what a bare super hands on
+pub params_housed : {s z : List Bytes} {L : Type 0} {K H : Sight → Type 0} → Housing s L K H z → Housing s L K (λ c. AllHeld c (names_of_params (params_of c.body)) × H c) z
+params_housed a = record { shape = a.shape; is = λ c o e k. let m = a.is c o e k in ((o.params, m.0), m.1) }
+
 -- Bodies.
 
 left_over : (x : Bytes) (others xs : List Bytes) → is_in x others ≡ false → is_in x xs ≡ true → is_in x (without_names others xs) ≡ true
@@ -144,15 +149,30 @@ locals_held t seen outer h x e = by (is_in x (ps ++ seen)) refl
     by true i = one_holds (is_in x ps) (is_in x seen) here (λ j. or_right (is_in x (ps ++ xs)) (is_held x outer) (h x j)) (sym (list_any-append (same x) ps seen) ∙ i)
     by false i = or_left (is_in x (ps ++ xs)) (is_held x outer) (list_any-append (same x) ps xs ∙ or_right (is_in x ps) (is_in x xs) (left_over x (ps ++ seen) (names_in (of_tree top t (so_far []))) i e))
 
+-- the names of a body's parameters are among those that it sets
+params_known : (c : Sight) (ps : Params) → ParamsKnown top c ps → AllHeld c (names_of_params ps)
+params_known c no_param k = tt
+params_known c (required x ps) k = (k.0, params_known c ps k.1)
+params_known c (optional x t ps) k = (k.0, params_known c ps k.1.1)
+params_known c (rest_param x ps) k = (k.0, params_known c ps k.1)
+params_known c (block_param x ps) k = (k.0, params_known c ps k.1)
+
+params_held : (c : Sight) (b : Tree) → Known top c b → AllHeld c (names_of_params (params_of b))
+params_held c (at o (body ps a)) k = params_known c ps k.0
+params_held c (at o f) k = tt
+
 -- In sight within a body that has these names, all that it sets is known, and each block in it sees held names.
 module _ (b : Tree) (seen names : List Bytes) (outer : Scopes) (l : Shaped b) (far : Absent top (places b)) (sets : (x : Bytes) → is_in x (names_in (of_tree top b (so_far []))) ≡ true → is_held x (names ∷ outer) ≡ true) (around : (x : Bytes) → is_in x seen ≡ true → is_held x outer ≡ true) where
   pub all_known : Known top (record { body = b; seen = seen; scopes = names ∷ outer }) b
   all_known = let r = (tree_part (record { body = b; seen = seen; scopes = names ∷ outer }) top top b l far).runs [] in r.known (λ x e. sets x (ap (λ g. is_in x (names_in g)) r.is ∙ e))
 
   pub is_sound : Sound (record { body = b; seen = seen; scopes = names ∷ outer })
-  is_sound q =
+  is_sound =
       let c : Sight = record { body = b; seen = seen; scopes = names ∷ outer } in
-      held_both c (names_in (of_tree q b (so_far []))) seen ((tree_part c top q b l far).within all_known (so_far []) (λ x e. absurd cc)) (λ x e. or_right (is_in x names) (is_held x outer) (around x e))
+      record {
+        seen = λ q. held_both c (names_in (of_tree q b (so_far []))) seen ((tree_part c top q b l far).within all_known (so_far []) (λ x e. absurd cc)) (λ x e. or_right (is_in x names) (is_held x outer) (around x e));
+        params = params_held c b all_known;
+      }
 
 pub block_housed : {s y z : List Bytes} (o : SourcePosition) (ps : Params) (a : Tree) → HousedParams s ps y → HousedTree y a z → HousedBlock s (with (at o (body ps a))) s
 block_housed o ps a h i =
@@ -162,7 +182,7 @@ block_housed o ps a h i =
       shape = refl;
       is = λ c so e k.
           let seen = names_seen c b in
-          let around = so (place_of b) in
+          let around = so.seen (place_of b) in
           let sets = locals_held b seen c.scopes around in
           ((n.is (block_sight c b) (is_sound b seen (locals_of seen b) c.scopes n.shape k sets around) (λ x j. or_right (is_in x (locals_of seen b)) (is_held x c.scopes) (e x j)) (all_known b seen (locals_of seen b) c.scopes n.shape k sets around)).0, e);
     }

@@ -10,3 +10,8 @@ pub mod HousedParts
 pub mod HousedStatements
 pub mod LocalsHeld
 pub mod Numbering
+pub mod Forming
+pub mod FormedParts
+pub mod FormedStatements
+pub mod TextsFormed
+pub mod PlainRuns

@@ -2,7 +2,9 @@
 //! product code.
 #![tactic(auto)]
 
-ghost use Rattle.std.specs.Prelude.{◌<◌, ◌^◌, ℕ, List, nat_eq, length};
+pub mod runs;
+
+ghost use Rattle.std.specs.Prelude.{◌<◌, ◌^◌, ℕ, List, nat_eq, length, false};
 ghost use Rattle.std.specs.List.{IsDistinct, AllByRecursion};
 ghost use Rattle.ruby_lexer.specs.Bytes.{Bytes};
 ghost use Rattle.ruby_lexer.specs.Tokens.{before_end};
@@ -10,6 +12,8 @@ ghost use Rattle.ruby_tree.specs.Tree.{Tree};
 ghost use Rattle.ruby_tree.specs.Reading.{Reads};
 ghost use Rattle.ruby_meaning.specs.Sequences.{places, sequence_number};
 ghost use Rattle.tree_laws.specs.Numbering.{Has};
+ghost use Rattle.tree_laws.specs.Formed.{IsFormed, IsBody};
+ghost use Rattle.ruby_meaning.specs.Loads.{file_body};
 ghost use Rattle.ruby_meaning.specs.Levels.{file_sight, IsHoused};
 
 /// No two sequences of a text's tree begin at one place, so that their numbers tell them apart; and
@@ -21,7 +25,8 @@ pub fn sequences_begin_apart()
 {}
 
 /// Each local that is read or set in a text's tree is held where it stands: by the environment of
-/// the body that it stands in, or by one outward.
+/// the body that it stands in, or by one outward. So are the parameters that a `super` without
+/// arguments hands on.
 pub fn locals_are_held()
     ensures held { (source : Bytes) (t : Tree) → Reads source t → IsHoused (file_sight t) t }
 {}
@@ -30,4 +35,14 @@ pub fn locals_are_held()
 /// that begins behind it.
 pub fn sequence_numbers_rise()
     ensures rise { (places : List ℕ) (q p : ℕ) → Has q places → q < p → sequence_number places q < sequence_number places p }
+{}
+
+/// In a text's tree each form stands in its place: bodies as those of methods, classes, modules and
+/// blocks, with parameters in order and of distinct names, the parts of rescues and ensures as
+/// theirs, and what begins a rescue again or raises its exception again directly in its clauses. No
+/// call has two blocks, what is spread is an argument, and each path has a name. So is the body of
+/// a file that has this tree.
+pub fn trees_are_formed()
+    ensures formed { (source : Bytes) (t : Tree) → Reads source t → IsFormed false t }
+    ensures file { (source : Bytes) (t : Tree) → Reads source t → IsBody (file_body t) }
 {}
