@@ -1,8 +1,7 @@
 -- The head of a body's sequence says how a call counts and binds its arguments, and where the body begins.
-use Rattle.std.proofs.Common.{◌≡◌, ℕ, zero, suc, pred, ◌+◌, ◌-◌, ◌≤◌, Bool, true, false, cond, refl, ap, ◌∙◌, subst, sym, arith, List, [], ◌∷◌, length, get_or}
+use Rattle.std.proofs.Common.{◌≡◌, ℕ, zero, suc, pred, ◌+◌, ◌-◌, ◌≤◌, Bool, true, false, cond, refl, ap, sym, arith, List, [], length, get_or}
 use Rattle.std.proofs.Math.Nat.{min-le_left}
-use Rattle.ruby_tree.specs.Names.{Bytes}
-use Rattle.ruby_tree.specs.Tree.{SourcePosition, Tree, at, Form, body, Params, no_param, required, optional, rest_param, block_param}
+use Rattle.ruby_tree.specs.Tree.{Tree, at, Form, body, Params, no_param, required, optional, rest_param, block_param}
 use Rattle.ruby_meaning.specs.Value.{Value, Code}
 use Rattle.ruby_meaning.specs.Locals.{params_of, params_in}
 use Rattle.ruby_meaning.specs.Calls.{count_of_params, has_block_param, optional_given}
