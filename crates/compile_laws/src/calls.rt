@@ -19,12 +19,12 @@ ghost use Rattle.ruby_meaning.specs.Calls.{with_step, count_of_params, has_block
 ghost use Rattle.ruby_meaning.specs.Files.{Files, no_ruby, ruby_fault, ruby_tree};
 ghost use Rattle.ruby_meaning.specs.Blocks.{run_method, run_block, run_given};
 ghost use Rattle.ruby_meaning.specs.Search.{provided, found_at, missing, missing_name, resolve};
-ghost use Rattle.ruby_meaning.specs.Loads.{cannot_load, fault_at, load_ruby, after_load, ask_for};
+ghost use Rattle.ruby_meaning.specs.Loads.{cannot_load, fault_at, file_code, load_ruby, after_load, ask_for};
 ghost use Rattle.ruby_meaning.specs.Invoke.{first_of, closure_of, run_found, run_if_found, call_method};
 ghost use Rattle.ruby_meaning.specs.ClassBodies.{class_alone, module_alone, same_class, refused, no_superclass, not_a, open_class, class_named, class_below, module_of_name};
 ghost use Rattle.ruby_meaning.specs.Parts.{given_of, super_found, wrong_block};
 ghost use Rattle.ruby_meaning.specs.Levels.{Scopes};
-ghost use Rattle.ruby_meaning.specs.PlainRun.{with_turns};
+ghost use Rattle.ruby_meaning.specs.PlainRun.{Program, nowhere, top_frame, start_world, with_turns};
 ghost use Rattle.code_meaning.specs.Code.{at_line, Routine};
 ghost use Rattle.code_meaning.specs.Machine.{is_valued, is_bare, step};
 ghost use Rattle.code_meaning.specs.Frames.{after_file, Tables};
@@ -167,4 +167,13 @@ pub fn sequences_tell_how_they_are_called()
     ensures given { (code : Code) (vs : List Value) → optional_given code vs ≤ (count_of_params (params_of code.body)).optional }
     ensures locals { (unit : Tables) (l : Where) (scopes : Scopes) (name : Bytes) (code : Code) → IsCodeAt unit l scopes code → (body_sequence l name code.body).locals ≡ code.locals }
     ensures first { (unit : Tables) (l : Where) (scopes : Scopes) (name : Bytes) (code : Code) → IsCodeAt unit l scopes code → (body_sequence l name code.body).first_line ≡ l.first }
+{}
+
+/// The tests before a body can pass: in the world in which a program starts, with one turn, they do for
+/// a body without parameters and without statements.
+pub fn tests_can_pass()
+    ensures method { (p : Program) → MayRunMethod (file_code [] None nowhere) [] no_block 0 (with_turns 1 (start_world p)) }
+    ensures block { (p : Program) → MayRunBlock (file_code [] None nowhere) [] 0 (with_turns 1 (start_world p)) }
+    ensures class { (p : Program) → MayOpen top_frame nowhere (start_world p) }
+    ensures file { (path : Bytes) (p : Program) → MayLoad path nowhere 0 (with_turns 1 (start_world p)) }
 {}
