@@ -35,7 +35,7 @@ use Rattle.compile_laws.proofs.StepsCome.{send_calls, yield_calls}
 module _ (files : Files) where
   pub begun_runs : (unit : Tables) (l : Where) (kind : SeqKind) (name : Bytes) (t : Tree) (frame : Frame) (w : World) → Begins unit l t frame w
       → Runs files (evaluate files) unit.seqs unit.bodies (body_routine l kind name t) frame (start_of l t frame.given) [] w (evaluate files t frame w)
-  begun_runs unit l kind name t frame w h = body_runs files unit.seqs unit.bodies t l kind name frame w h.no_loop h.no_clause h.stands h.scopes h.finds h.outside
+  begun_runs unit l kind name t frame w h = body_runs files unit.seqs unit.bodies t l kind name frame w h.no_loop h.no_clause h.stands h.sight.scopes h.finds h.outside
 
   pub frame_on_top : (unit its : Tables) (seq : Routine) (frame : Frame) (p : ℕ) (st rest : List Value) (w : World) (us : List Under) (q : ℕ) (m : Wrap) (l : Where) (kind : SeqKind) (name : Bytes) (t : Tree) (fr : Frame) (z : World)
       → StepCalls files unit seq frame p st w q rest (enters m t fr z) → Begins its l t fr z

@@ -78,8 +78,12 @@ module _ (unit : Tables) where
     no_loop = is.no_loop;
     no_clause = is.no_clause;
     stands = record { of_first = is.first; of_path = is.path; of_places = is.places; of_body = is.body };
-    scopes = subst (λ s. HasScopes s (called_frame frame line code self x place vs given turns w) (method_world code vs given turns w)) (sym is.sight)
-        (opened_scopes [] None code vs given (called_frame frame line code self x place vs given turns w) (at_method code turns w) is.locals refl tt);
+    sight = record {
+      body = is.body;
+      seen = is.seen;
+      scopes = subst (λ s. HasScopes s (called_frame frame line code self x place vs given turns w) (method_world code vs given turns w)) (sym is.sight)
+          (opened_scopes [] None code vs given (called_frame frame line code self x place vs given turns w) (at_method code turns w) is.locals refl tt);
+    };
     finds = is.finds;
     outside = refl;
   }
@@ -94,8 +98,12 @@ module _ (unit : Tables) where
         no_loop = is.no_loop;
         no_clause = is.no_clause;
         stands = record { of_first = is.first; of_path = is.path; of_places = is.places; of_body = is.body };
-        scopes = subst (λ s. HasScopes s (yielded_frame frame line c k vs turns w) (block_world c vs turns w)) (sym is.sight)
-            (opened_scopes scopes (Some c.environment) c.code (taken c.code vs z) no_block (yielded_frame frame line c k vs turns w) z is.locals refl (have_as scopes w.environments z.environments (Some c.environment) same_all h));
+        sight = record {
+          body = is.body;
+          seen = is.seen;
+          scopes = subst (λ s. HasScopes s (yielded_frame frame line c k vs turns w) (block_world c vs turns w)) (sym is.sight)
+              (opened_scopes scopes (Some c.environment) c.code (taken c.code vs z) no_block (yielded_frame frame line c k vs turns w) z is.locals refl (have_as scopes w.environments z.environments (Some c.environment) same_all h));
+        };
         finds = is.finds;
         outside = refl;
       }
@@ -107,7 +115,7 @@ module _ (unit : Tables) where
     no_loop = refl;
     no_clause = refl;
     stands = record { of_first = refl; of_path = sd.of_path; of_places = sd.of_places; of_body = refl };
-    scopes = nil_scopes (locals_of [] t) (opened_frame frame line t c w) (with_cells (environment_cells (length (locals_of [] t))) (at_class frame t w)) refl;
+    sight = record { body = refl; seen = refl; scopes = nil_scopes (locals_of [] t) (opened_frame frame line t c w) (with_cells (environment_cells (length (locals_of [] t))) (at_class frame t w)) refl };
     finds = fs;
     outside = refl;
   }
@@ -119,7 +127,7 @@ module _ (unit : Tables) where
     no_loop = refl;
     no_clause = refl;
     stands = record { of_first = refl; of_path = refl; of_places = refl; of_body = refl };
-    scopes = nil_scopes (locals_of [] t) (file_frame (file_code path load t) (next_environment w) outside running calling) w refl;
+    sight = record { body = refl; seen = refl; scopes = nil_scopes (locals_of [] t) (file_frame (file_code path load t) (next_environment w) outside running calling) w refl };
     finds = fs;
     outside = refl;
   }
@@ -133,6 +141,7 @@ module _ (unit : Tables) where
     path = sd.of_path;
     places = sd.of_places;
     body = refl;
+    seen = refl;
     locals = refl;
     sight = refl;
     finds = fs;
@@ -147,6 +156,7 @@ module _ (unit : Tables) where
     path = sd.of_path;
     places = sd.of_places;
     body = refl;
+    seen = λ i. seen_by (seen i) (sd.of_body i) (place_of t);
     locals = refl;
     sight = λ i. locals_of (seen_by (sym seen i) (sym sd.of_body i) (place_of t)) t ∷ l.sight.scopes;
     finds = fs;

@@ -44,3 +44,4 @@ pub mod Inside
 pub mod NestedRise
 pub mod NumberedSequences
 pub mod TextsRise
+pub mod Headers

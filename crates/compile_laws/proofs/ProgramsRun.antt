@@ -13,7 +13,7 @@ use Rattle.ruby_meaning.specs.World.{World, Frame, Outcome}
 use Rattle.ruby_meaning.specs.Loads.{file_body}
 use Rattle.ruby_meaning.specs.Files.{Files}
 use Rattle.ruby_meaning.specs.Levels.{Sight, Scopes, names_seen}
-use Rattle.ruby_meaning.specs.InSight.{HasScopes}
+use Rattle.ruby_meaning.specs.InSight.{InSight}
 use Rattle.ruby_meaning.specs.Evaluation.{evaluate}
 use Rattle.code_meaning.specs.Code.{Routine}
 use Rattle.code_meaning.specs.Machine.{Runs}
@@ -31,9 +31,9 @@ use Rattle.compile_laws.proofs.FramesBegin.{file_begins}
 use Rattle.compile_laws.proofs.FoundPrograms.{file_known}
 
 module _ (path : Bytes) (t : Tree) where
-  pub begins_here : (c : Compiled) (frame : Frame) (w : World) → IsOfProgram path t c → IsBodyKind c.kind → Stands (first_line_of c.tree) path (places t) c.tree frame → HasScopes c.inner.sight.scopes frame w → frame.in_loop ≡ false
+  pub begins_here : (c : Compiled) (frame : Frame) (w : World) → IsOfProgram path t c → IsBodyKind c.kind → Stands (first_line_of c.tree) path (places t) c.tree frame → InSight c.inner.sight frame w → frame.in_loop ≡ false
       → Begins (tables path t) c.inner c.tree frame w
-  begins_here c frame w o k s names out =
+  begins_here c frame w o k s sees out =
       let b : IsFoundBody (routines path t) (bodies path t) c = o.body k in
       record {
         no_loop = b.no_loop;
@@ -44,15 +44,15 @@ module _ (path : Bytes) (t : Tree) where
           of_places = s.of_places ∙ sym o.in_places;
           of_body = s.of_body ∙ sym b.in_sight;
         };
-        scopes = names;
+        sight = sees;
         finds = b.finds;
         outside = out;
       }
 
   -- a code whose body sees its own locals before those of these scopes
-  code_at : (c : Compiled) (code : Code) (seen : List Bytes) (scopes : Scopes) → IsOfProgram path t c → IsBodyKind c.kind → IsCodeOf path (places t) seen c.tree code → c.inner.sight.scopes ≡ locals_of seen c.tree ∷ scopes
+  code_at : (c : Compiled) (code : Code) (seen : List Bytes) (scopes : Scopes) → IsOfProgram path t c → IsBodyKind c.kind → IsCodeOf path (places t) seen c.tree code → c.inner.sight.seen ≡ seen → c.inner.sight.scopes ≡ locals_of seen c.tree ∷ scopes
       → IsCodeAt (tables path t) c.inner scopes code
-  code_at c code seen scopes o k is e =
+  code_at c code seen scopes o k is around e =
       let b : IsFoundBody (routines path t) (bodies path t) c = o.body k in
       record {
         no_loop = b.no_loop;
@@ -61,6 +61,7 @@ module _ (path : Bytes) (t : Tree) where
         path = is.in_file ∙ sym o.in_file;
         places = is.in_places ∙ sym o.in_places;
         body = is.body ∙ sym b.in_sight;
+        seen = is.sees ∙ sym around;
         locals = is.locals;
         sight = e ∙ ap (λ xs. xs ∷ scopes) (ap₂ (λ (s : List Bytes) (u : Tree). locals_of s u) (sym is.sees) (sym is.body) ∙ sym is.locals);
         finds = subst (λ u. FindsBody (routines path t) (bodies path t) c.inner u) (sym is.body) b.finds;
@@ -71,13 +72,13 @@ module _ (path : Bytes) (t : Tree) where
   sight_by c kind o e = o.sees ∙ ap (λ k. sight_in t k (sequence_at path t c.parent).inner.sight c.tree) e
 
   pub method_stands : (c : Compiled) (code : Code) → IsOfProgram path t c → c.kind ≡ kinds.Method → IsCodeOf path (places t) [] c.tree code → IsCodeAt (tables path t) c.inner [] code
-  method_stands c code o e is = code_at c code [] [] o (subst IsBodyKind (sym e) tt) is (ap (λ (s : Sight). s.scopes) (sight_by c kinds.Method o e))
+  method_stands c code o e is = code_at c code [] [] o (subst IsBodyKind (sym e) tt) is (ap (λ (s : Sight). s.seen) (sight_by c kinds.Method o e)) (ap (λ (s : Sight). s.scopes) (sight_by c kinds.Method o e))
 
   pub block_stands : (c : Compiled) (code : Code) → IsOfProgram path t c → c.kind ≡ kinds.Block → IsCodeOf path (places t) (names_seen (sequence_at path t c.parent).inner.sight c.tree) c.tree code
       → IsCodeAt (tables path t) c.inner (sequence_at path t c.parent).inner.sight.scopes code
   block_stands c code o e is =
       let around : Sight = (sequence_at path t c.parent).inner.sight in
-      code_at c code (names_seen around c.tree) around.scopes o (subst IsBodyKind (sym e) tt) is (ap (λ (s : Sight). s.scopes) (sight_by c kinds.Block o e))
+      code_at c code (names_seen around c.tree) around.scopes o (subst IsBodyKind (sym e) tt) is (ap (λ (s : Sight). s.seen) (sight_by c kinds.Block o e)) (ap (λ (s : Sight). s.scopes) (sight_by c kinds.Block o e))
 
 module _ (files : Files) (path : Bytes) (t : Tree) where
   pub runs_whole : (c : Compiled) (frame : Frame) (w : World) → IsOfProgram path t c → IsBodyKind c.kind → Begins (tables path t) c.inner c.tree frame w
@@ -85,7 +86,7 @@ module _ (files : Files) (path : Bytes) (t : Tree) where
   runs_whole c frame w o k h =
       subst (λ (r : Routine). Runs files (evaluate files) (routines path t) (bodies path t) r frame (start_of c.inner c.tree frame.given) [] w (evaluate files c.tree frame w))
       (sym (ap routine_of o.numbered ∙ (o.body k).routine))
-      (body_runs files (routines path t) (bodies path t) c.tree c.inner c.kind c.body.name frame w h.no_loop h.no_clause h.stands h.scopes h.finds h.outside)
+      (body_runs files (routines path t) (bodies path t) c.tree c.inner c.kind c.body.name frame w h.no_loop h.no_clause h.stands h.sight.scopes h.finds h.outside)
 
   -- a machine that begins with a sequence comes to what it runs to
   pub ends_so : (r : Routine) (frame : Frame) (p : ℕ) (w : World) (o c : Outcome) → Runs files (evaluate files) (routines path t) (bodies path t) r frame p [] w c

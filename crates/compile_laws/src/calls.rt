@@ -1,6 +1,6 @@
 //! How a call becomes a frame: what each call comes to, whatever bodies do. It is a body with the
 //! frame and the world in which it begins, or an outcome without one.
-ghost use Rattle.std.specs.Prelude.{◌≡◌, ℕ, suc, ◌+◌, Bool, true, false, List, [], ◌∷◌, ◌++◌, length, Option, Some, None, is_some, slice_get, codes};
+ghost use Rattle.std.specs.Prelude.{◌≡◌, ◌≤◌, ℕ, suc, pred, ◌+◌, Bool, true, false, List, [], ◌∷◌, ◌++◌, length, get_or, Option, Some, None, is_some, slice_get, codes};
 ghost use Rattle.ruby_tree.specs.Names.{Bytes};
 ghost use Rattle.ruby_tree.specs.Tree.{Tree};
 ghost use Rattle.iseq_types.specs.declared.instructions.Instr.TheVariants.{ObjToString, Send, InvokeSuper, InvokeBlock, DefineClass};
@@ -15,18 +15,23 @@ ghost use Rattle.ruby_meaning.specs.Locals.{params_of, locals_of};
 ghost use Rattle.ruby_meaning.specs.Constants.{own_constant, innermost};
 ghost use Rattle.ruby_meaning.specs.World.{Given, no_block, Running, Closure, Ask, World, Frame, Done, Spent, Full, Run, ruby_file, loaded, text_of, path_of, loaded_of};
 ghost use Rattle.ruby_meaning.specs.Steps.{raise_new, at_depth, ended};
-ghost use Rattle.ruby_meaning.specs.Calls.{with_step, count_of_params, fits, wrong_count, spread, no_method};
+ghost use Rattle.ruby_meaning.specs.Calls.{with_step, count_of_params, has_block_param, optional_given, fits, wrong_count, spread, no_method};
 ghost use Rattle.ruby_meaning.specs.Files.{Files, no_ruby, ruby_fault, ruby_tree};
 ghost use Rattle.ruby_meaning.specs.Blocks.{run_method, run_block, run_given};
 ghost use Rattle.ruby_meaning.specs.Search.{provided, found_at, missing, missing_name, resolve};
-ghost use Rattle.ruby_meaning.specs.Loads.{cannot_load, fault_at, load_ruby, after_load, ask_for};
+ghost use Rattle.ruby_meaning.specs.Loads.{cannot_load, fault_at, file_code, load_ruby, after_load, ask_for};
 ghost use Rattle.ruby_meaning.specs.Invoke.{first_of, closure_of, run_found, run_if_found, call_method};
 ghost use Rattle.ruby_meaning.specs.ClassBodies.{class_alone, module_alone, same_class, refused, no_superclass, not_a, open_class, class_named, class_below, module_of_name};
 ghost use Rattle.ruby_meaning.specs.Parts.{given_of, super_found, wrong_block};
-ghost use Rattle.ruby_meaning.specs.PlainRun.{with_turns};
+ghost use Rattle.ruby_meaning.specs.Levels.{Scopes};
+ghost use Rattle.ruby_meaning.specs.PlainRun.{Program, nowhere, top_frame, start_world, with_turns};
 ghost use Rattle.code_meaning.specs.Code.{at_line, Routine};
 ghost use Rattle.code_meaning.specs.Machine.{is_valued, is_bare, step};
 ghost use Rattle.code_meaning.specs.Frames.{after_file, Tables};
+ghost use Rattle.compile_table.specs.Shapes.{Where};
+ghost use Rattle.compile_table.specs.Sequences.{body_sequence};
+ghost use Rattle.compile_laws.specs.Finds.{start_of};
+ghost use Rattle.compile_laws.specs.Begins.{IsCodeAt};
 ghost use Rattle.compile_laws.specs.Calling.{Comes, at_once, ComesTo, IsFresh, has_depth, has_room, one_deeper, IsFullFor, entering, takes, at_method, MayRunMethod, method_entered, at_block, taken, MayRunBlock, block_entered, at_class, MayOpen, class_entered, class_made, at_file, MayLoad, file_entered, asked_entered, searched, now_loading, asking, given_by, closure_given, calling_frame, calling_given, calling_world, pushed, with_block_value, StepCalls, StepComes};
 
 /// A call of a method that is written in Ruby comes to its body where its tests pass: as many
@@ -148,4 +153,27 @@ pub fn steps_are_alike_or_call()
     ensures blocks { (frame : Frame) (line : ℕ) (given : Given) (vs : List Value) (w : World) → (c : Comes) × IsFresh c × ComesTo (λ b. run_given b frame line given vs w) c }
     ensures files { (files : Files) (frame : Frame) (line : ℕ) (ask : Ask) (w : World) → (c : Comes) × IsFresh c × ComesTo (λ b. ask_for files b frame line ask w) c }
     ensures classes { (frame : Frame) (line : ℕ) (t : Tree) (c : ℕ) (w : World) → (o : Comes) × IsFresh o × ComesTo (λ b. open_class frame line t (b t) c w) o }
+{}
+
+/// The head of a body's sequence tells how a call counts and binds its arguments: the required and
+/// optional parameters, the rest and the block parameter, and the locals. A body begins at the entry
+/// for the optional parameters that are given, which are no more than there are.
+pub fn sequences_tell_how_they_are_called()
+    ensures required { (l : Where) (name : Bytes) (t : Tree) → (body_sequence l name t).required ≡ (count_of_params (params_of t)).required }
+    ensures optional { (l : Where) (name : Bytes) (t : Tree) → pred (length (body_sequence l name t).entries) ≡ (count_of_params (params_of t)).optional }
+    ensures rest { (l : Where) (name : Bytes) (t : Tree) → (body_sequence l name t).rest ≡ (count_of_params (params_of t)).rest }
+    ensures block { (l : Where) (name : Bytes) (t : Tree) → (body_sequence l name t).block ≡ has_block_param (params_of t) }
+    ensures entry { (l : Where) (name : Bytes) (t : Tree) (k : ℕ) → k ≤ (count_of_params (params_of t)).optional → get_or (body_sequence l name t).entries k 0 ≡ start_of l t k }
+    ensures given { (code : Code) (vs : List Value) → optional_given code vs ≤ (count_of_params (params_of code.body)).optional }
+    ensures locals { (unit : Tables) (l : Where) (scopes : Scopes) (name : Bytes) (code : Code) → IsCodeAt unit l scopes code → (body_sequence l name code.body).locals ≡ code.locals }
+    ensures first { (unit : Tables) (l : Where) (scopes : Scopes) (name : Bytes) (code : Code) → IsCodeAt unit l scopes code → (body_sequence l name code.body).first_line ≡ l.first }
+{}
+
+/// The tests before a body can pass: in the world in which a program starts, with one turn, they do for
+/// a body without parameters and without statements.
+pub fn tests_can_pass()
+    ensures method { (p : Program) → MayRunMethod (file_code [] None nowhere) [] no_block 0 (with_turns 1 (start_world p)) }
+    ensures block { (p : Program) → MayRunBlock (file_code [] None nowhere) [] 0 (with_turns 1 (start_world p)) }
+    ensures class { (p : Program) → MayOpen top_frame nowhere (start_world p) }
+    ensures file { (path : Bytes) (p : Program) → MayLoad path nowhere 0 (with_turns 1 (start_world p)) }
 {}

@@ -14,7 +14,7 @@ ghost use Rattle.ruby_meaning.specs.World.{World, Frame, Outcome};
 ghost use Rattle.ruby_meaning.specs.Loads.{file_body};
 ghost use Rattle.ruby_meaning.specs.Files.{Files};
 ghost use Rattle.ruby_meaning.specs.Evaluation.{evaluate};
-ghost use Rattle.ruby_meaning.specs.InSight.{HasScopes};
+ghost use Rattle.ruby_meaning.specs.InSight.{InSight};
 ghost use Rattle.code_meaning.specs.Machine.{Runs};
 ghost use Rattle.code_meaning.specs.Frames.{running, returning, Turns};
 ghost use Rattle.compile_table.specs.Sequences.{in_file, Compiled, sequences_of, index_row, unit_of, sequence_at, routines, bodies};
@@ -37,11 +37,12 @@ pub fn units_have_their_sequences()
     ensures lengths { (path : Bytes) (t : Tree) → (length (unit_of path t).bodies ≡ length (sequences_of path t)) × (length (unit_of path t).rows ≡ length (sequences_of path t)) }
 {}
 
-/// A body of a program begins in each frame that runs it in its file, where the environments have the
-/// names in sight. The code of a method and of a block of a program stands in its tables: that of a
-/// method sees no locals around it, and that of a block what is in sight in the sequence around it.
+/// A body of a program begins in each frame that runs it in its file and is in its sight: it sees
+/// what is seen there, and its environments have the names in sight. The code of a method and of a
+/// block of a program stands in its tables: that of a method sees no locals around it, and that of a
+/// block what is in sight in the sequence around it.
 pub fn bodies_of_programs_begin()
-    ensures begins { (path : Bytes) (t : Tree) (c : Compiled) (frame : Frame) (w : World) → IsOfProgram path t c → IsBodyKind c.kind → Stands (first_line_of c.tree) path (places t) c.tree frame → HasScopes c.inner.sight.scopes frame w → frame.in_loop ≡ false → Begins (tables path t) c.inner c.tree frame w }
+    ensures begins { (path : Bytes) (t : Tree) (c : Compiled) (frame : Frame) (w : World) → IsOfProgram path t c → IsBodyKind c.kind → Stands (first_line_of c.tree) path (places t) c.tree frame → InSight c.inner.sight frame w → frame.in_loop ≡ false → Begins (tables path t) c.inner c.tree frame w }
     ensures method { (path : Bytes) (t : Tree) (c : Compiled) (code : Code) → IsOfProgram path t c → c.kind ≡ kinds.Method → IsCodeOf path (places t) [] c.tree code → IsCodeAt (tables path t) c.inner [] code }
     ensures block { (path : Bytes) (t : Tree) (c : Compiled) (code : Code) → IsOfProgram path t c → c.kind ≡ kinds.Block → IsCodeOf path (places t) (names_seen (sequence_at path t c.parent).inner.sight c.tree) c.tree code → IsCodeAt (tables path t) c.inner (sequence_at path t c.parent).inner.sight.scopes code }
 {}
