@@ -1,11 +1,9 @@
 -- What a step of a body keeps of what its frame needs: no turn is gained, and the environments keep their parents and names.
-use Rattle.std.proofs.Common.{◌≡◌, ℕ, zero, suc, ◌≤◌, Bool, refl, sym, subst, ap, ◌∙◌, arith, List, [], ◌∷◌, length, Option, Some, None}
-use Rattle.std.specs.Prelude.{slice_get}
-use Rattle.std.proofs.lemmas.Option.{same_Some, none-some}
+use Rattle.std.proofs.Common.{ℕ, Bool, refl, arith, List, Option}
 use Rattle.ruby_tree.specs.Names.{Bytes}
 use Rattle.ruby_tree.specs.Tree.{Tree, Goal}
 use Rattle.ruby_meaning.specs.Value.{Value, object, Source}
-use Rattle.ruby_meaning.specs.World.{Environment, Closure, Given, World, Frame, Done, Run, world_of}
+use Rattle.ruby_meaning.specs.World.{Closure, Given, World, Frame, Done, Run, world_of}
 use Rattle.ruby_meaning.specs.Steps.{make_string}
 use Rattle.ruby_meaning.specs.Calls.{enter}
 use Rattle.ruby_meaning.specs.Files.{Files}
@@ -13,44 +11,21 @@ use Rattle.ruby_meaning.specs.Invoke.{call_method}
 use Rattle.ruby_meaning.specs.Definitions.{set_goal, set_local, path_from, with_closure}
 use Rattle.ruby_meaning.specs.Parts.{piece_of, of_values}
 use Rattle.ruby_meaning.specs.Evaluation.{set_exception, run, evaluate}
-use Rattle.ruby_meaning.specs.Laws.{names_in, EnvironmentsStay, Leads}
+use Rattle.ruby_meaning.specs.Laws.{Leads}
+use Rattle.ruby_meaning.proofs.Scopes.{scopes_stay}
 use Rattle.ruby_meaning.proofs.Relation.{Keeps}
 use Rattle.ruby_meaning.proofs.Changes.{keeps_enter, keeps_set_local, keeps_exception}
 use Rattle.ruby_meaning.proofs.StepsOfLoads.{same_call}
 use Rattle.ruby_meaning.proofs.StepsOfParts.{same_set_goal, same_path_from, same_string, same_piece, same_values}
 use Rattle.ruby_meaning.proofs.Same.{Same, same_respects}
 use Rattle.ruby_meaning.proofs.Fixed.{evaluates, evaluation_is_fixed, evaluated}
-use Rattle.ruby_meaning.specs.InSight.{HaveNames, HasScopes}
 use Rattle.code_meaning.proofs.Slots.{slot_read, slot_set}
 use Rattle.compile_laws.proofs.Ready.{Ready, KeepsReady}
 use Rattle.compile_laws.proofs.Does.{Known}
 
--- Environments that stay.
-
-stays_at : (all after : List Environment) (n : ℕ) (e : Environment) → EnvironmentsStay all after → slice_get all n ≡ Some e → (d : Environment) × (slice_get after n ≡ Some d) × (d.parent ≡ e.parent) × (names_in d.locals ≡ names_in e.locals)
-stays_at [] after n e h at = absurd (none-some e at)
-stays_at (x ∷ all) [] n e h at = absurd h
-stays_at (x ∷ all) (d ∷ after) zero e h at = let same : x ≡ e = same_Some x e at in (d, refl, h.0 ∙ ap (λ y. y.parent) same, h.1 ∙ ap (λ y. names_in y.locals) same)
-stays_at (x ∷ all) (d ∷ after) (suc n) e h at = stays_at all after n e h.2 at
-
-as_long : (all after : List Environment) → EnvironmentsStay all after → length all ≤ length after
-as_long [] after h = omega arith
-as_long (x ∷ all) [] h = absurd h
-as_long (x ∷ all) (d ∷ after) h = let e = as_long all after h.2 in omega arith
-
-names_stay : (low high : ℕ) (scopes : List (List Bytes)) (all after : List Environment) (p : Option ℕ) → low ≤ high → EnvironmentsStay all after → HaveNames low scopes all p → HaveNames high scopes after p
-names_stay low high [] all after p le h k = tt
-names_stay low high (xs ∷ scopes) all after None le h k = absurd k
-names_stay low high (xs ∷ scopes) all after (Some n) le h k =
-    let d = stays_at all after n k.1 h k.2 in
-    (omega (arith, k.0), d.0, d.1, d.3 ∙ k.3, subst (λ p. HaveNames n scopes after p) (sym d.2) (names_stay n n scopes all after k.1.parent (omega arith) h k.4))
-
-pub scopes_stay : (scopes : List (List Bytes)) (frame : Frame) (w z : World) → EnvironmentsStay w.environments z.environments → HasScopes scopes frame w → HasScopes scopes frame z
-scopes_stay scopes frame w z h k = names_stay (length w.environments) (length z.environments) scopes w.environments z.environments (Some frame.environment) (as_long w.environments z.environments h) h k
-
 -- What a world leads to is as ready.
 pub ready_leads : (scopes : List (List Bytes)) (frame it : Frame) (n : ℕ) (w z : World) → Leads it w z → Ready scopes frame n w → Ready scopes frame n z
-ready_leads scopes frame it n w z l r = record { turns = omega (arith, l.turns, r.turns); names = scopes_stay scopes frame w z l.stay r.names }
+ready_leads scopes frame it n w z l r = record { turns = omega (arith, l.turns, r.turns); names = scopes_stay scopes frame w z r.names l.stay }
 
 module _ (scopes : List (List Bytes)) (frame : Frame) (top : ℕ) where
   -- a run that is known to be the same as another

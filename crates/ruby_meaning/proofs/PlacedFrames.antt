@@ -60,7 +60,7 @@ method_in_place frame line code self x given vs n k r b w s h stored housed is =
   housed = housed.housed;
   fits = method_fits frame line code self (next_environment w) x given n w.objects stored is;
   sight = method_sees frame line code self (next_environment w) x given n (with_environment None (begun code vs k r b) w) housed
-  (named None (begun code vs k r b) w code.locals [] (names_begin [] code.body code.locals vs k r b housed.locals) tt);
+      (named None (begun code vs k r b) w code.locals [] (names_begin [] code.body code.locals vs k r b housed.locals) tt);
   stored = opened_stored None (begun code vs k r b) w s h;
   world = opened_housed None (begun code vs k r b) w s h;
 }
@@ -75,7 +75,7 @@ block_in_place frame line d i c y vs k r b w s h stored made =
       housed = made.housed;
       fits = block_fits frame line d i (next_environment w) c w.objects stored;
       sight = block_sees frame line d i (next_environment w) y z (made_on y w.environments z.environments (stay_push w.environments _) d made)
-      (named (Some d.environment) (begun d.code vs k r b) w d.code.locals y.scopes (names_begin (names_seen y d.code.body) d.code.body d.code.locals vs k r b made.locals) made.scopes);
+          (named (Some d.environment) (begun d.code vs k r b) w d.code.locals y.scopes (names_begin (names_seen y d.code.body) d.code.body d.code.locals vs k r b made.locals) made.scopes);
       stored = opened_stored (Some d.environment) (begun d.code vs k r b) w s h;
       world = opened_housed (Some d.environment) (begun d.code vs k r b) w s h;
     }

@@ -48,9 +48,13 @@ pub names_open : (scopes : Scopes) (parent : Option ℕ) (locals : List (Bytes �
     → HaveNames (length (with_environment parent locals w).environments) (names_in locals ∷ scopes) (with_environment parent locals w).environments (Some (next_environment w))
 names_open scopes parent locals w h =
     let z : World = with_environment parent locals w in
-    let e : Environment = record { parent = parent; locals = locals } in
-    (omega (arith, length-append w.environments (e ∷ [])), e, pushed_there w.environments e, refl,
-    have_more (length w.environments) (length w.environments) scopes w.environments z.environments parent (omega arith) (stay_push w.environments e) h)
+    let e : Environment = record { parent = parent; locals = locals } in (
+      omega (arith, length-append w.environments (e ∷ [])),
+      e,
+      pushed_there w.environments e,
+      refl,
+      have_more (length w.environments) (length w.environments) scopes w.environments z.environments parent (omega arith) (stay_push w.environments e) h,
+    )
 
 pub scopes_open : (scopes : Scopes) (parent : Option ℕ) (locals : List (Bytes × Value)) (frame : Frame) (w : World) → frame.environment ≡ next_environment w → HaveNames (length w.environments) scopes w.environments parent
     → HasScopes (names_in locals ∷ scopes) frame (with_environment parent locals w)
