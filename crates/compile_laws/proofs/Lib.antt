@@ -40,8 +40,4 @@ pub mod ClassesCome
 pub mod StepsCome
 pub mod FramesBegin
 pub mod FrameTurns
-pub mod Inside
-pub mod NestedRise
-pub mod NumberedSequences
-pub mod TextsRise
 pub mod Headers
