@@ -1,0 +1,3 @@
+pub mod Scan
+pub mod StoreFile
+pub mod PathFits
