@@ -1,0 +1,11 @@
+//! The load path: scans of its roots, the file that keeps them, and the index of their features.
+#![tactic(auto)]
+
+mod load_index;
+mod table;
+mod text_set;
+
+pub use load_index::LoadIndex;
+pub use path_meaning::RootScan;
+pub use table::{IndexedRoot, Place};
+pub use text_set::TextSet;

@@ -1,0 +1,5 @@
+//! Tests of the load path: its index.
+#![tactic(auto)]
+
+#[cfg(test)]
+mod load_index;
