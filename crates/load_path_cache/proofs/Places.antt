@@ -1,5 +1,5 @@
 -- The first root of a feature after a change of the roots.
-use Rattle.std.proofs.Common.{◌≡◌, ℕ, zero, suc, ◌+◌, ◌-◌, ◌^◌, ◌==◌, ◌<◌, ◌≤◌, min, Bool, true, false, cond, not, ◌&&◌, ◌||◌, nat_lt, is_some, Option, Some, None, IfSome, List, [], ◌∷◌, ◌++◌, length, drop, take, filter, get_or, remove, insert, position, refl, sym, ap, subst, ◌∙◌, add-zero, arith}
+use Rattle.std.proofs.Common.{◌≡◌, ℕ, zero, suc, ◌+◌, ◌-◌, ◌^◌, ◌==◌, ◌<◌, ◌≤◌, min, Bool, true, false, cond, not, ◌&&◌, nat_lt, is_some, Option, Some, None, IfSome, List, [], ◌∷◌, ◌++◌, length, drop, filter, get_or, remove, insert, position, refl, sym, ap, subst, ◌∙◌, arith}
 use Rattle.std.specs.List.{list_any}
 use Rattle.std.specs.FinSet as set
 use Rattle.std.specs.Option.{option_and_then}
@@ -100,12 +100,12 @@ moved_is zero n (r ∷ rs) f lt =
     let same : n + 0 ≡ n = omega arith in
     ap (λ l. place_from n l f) rest
     ∙ zero_case (set.contains r.files f) n (n + 0) (place_from (n + 0) (drop 0 (drop 0 rs)) f) (place_from (n + 1) rs f) (place_from n rs f) same
-        (sym (ap (λ l. place_from (n + 0) l f) (drop_none (drop 0 rs) ∙ rest) ∙ ap (λ k. place_from k rs f) same)) (next_is n rs f) (least n rs f)
+    (sym (ap (λ l. place_from (n + 0) l f) (drop_none (drop 0 rs) ∙ rest) ∙ ap (λ k. place_from k rs f) same)) (next_is n rs f) (least n rs f)
 moved_is (suc j) n (r ∷ rs) f lt =
     let shifted : n + 1 + j ≡ n + suc j = omega arith in
     suc_case (set.contains r.files f) n (n + suc j) (place_from (n + suc j) (drop j (remove rs j)) f) (place_from (n + 1) rs f) (place_from (n + 1) (remove rs j) f) (omega arith)
     (subst (λ m. place_from (n + 1) (remove rs j) f ≡ option_and_then (moved_at m (place_from m (drop j (remove rs j)) f)) (place_from (n + 1) rs f)) shifted
-        (moved_is j (n + 1) rs f (omega arith)))
+    (moved_is j (n + 1) rs f (omega arith)))
 
 -- after the root at a place was taken out, and the places were numbered anew
 pub taken_out : (roots : List IndexedRoot) (gone : ℕ) (entries next : List (List ℕ × Place)) → gone < length roots → IsTableOf roots entries
@@ -235,8 +235,8 @@ pub pushed_all : (roots now : List IndexedRoot) (path : List ℕ) (files unknown
     → ((f : List ℕ) → value_at next f ≡ cond (list_any (same_bytes f) unknown) (Some last) (value_at reserved f)) → IsTableOf now next
 pushed_all roots now path files unknown added entries reserved next last e table a n u r put f =
     pushed roots path files entries next last e table (λ f.
-        put f ∙ ap (λ us. cond (list_any (same_bytes f) us) (Some last) (value_at reserved f)) u
-        ∙ ap (λ es. cond (list_any (same_bytes f) (filter (is_unknown entries) files)) (Some last) (value_at es f)) r) f
+    put f ∙ ap (λ us. cond (list_any (same_bytes f) us) (Some last) (value_at reserved f)) u
+    ∙ ap (λ es. cond (list_any (same_bytes f) (filter (is_unknown entries) files)) (Some last) (value_at es f)) r) f
     ∙ ap (λ l. place_of l f) (sym (n ∙ ap (λ x. roots ++ x ∷ []) a))
 
 front_is : (roots : List IndexedRoot) (r : IndexedRoot) → insert roots 0 r ≡ r ∷ roots
@@ -251,5 +251,5 @@ pub unshifted_all : (roots now : List IndexedRoot) (path : List ℕ) (files unkn
     → ((f : List ℕ) → value_at next f ≡ cond (list_any (same_bytes f) unknown) (Some first) (value_at set_to f)) → IsTableOf now next
 unshifted_all roots now path files unknown added entries reserved shifted set_to next first e small table a n u r shift given put f =
     unshifted roots path files entries shifted set_to next first e small table (λ f. shift f ∙ ap (λ es. option_and_then raised (value_at es f)) r) given
-        (λ f. put f ∙ ap (λ us. cond (list_any (same_bytes f) us) (Some first) (value_at set_to f)) u) f
+    (λ f. put f ∙ ap (λ us. cond (list_any (same_bytes f) us) (Some first) (value_at set_to f)) u) f
     ∙ ap (λ l. place_of l f) (sym (n ∙ front_is roots added ∙ ap (λ x. x ∷ roots) a))

@@ -4,7 +4,7 @@ use Rattle.std.specs.List.{list_any}
 use Rattle.std.specs.Ordering.{nat_cmp, eq_by_cmp}
 use Rattle.std.specs.Cmp.{eq_by_cmp_equiv}
 use Rattle.std.specs.Cmp.Lexicographic.{slice_cmp, nat_list_cmp_total, texts_ties}
-use Rattle.std.specs.FinSet.{FinSet, contains, insert, from_list, from_list_push, contains-insert, contains-from_list, same_set, slice_cmp-IsAntisymmetric, nat_cmp-IsAntisymmetric}
+use Rattle.std.specs.FinSet.{contains, insert, from_list, from_list_push, contains-insert, contains-from_list, same_set, slice_cmp-IsAntisymmetric, nat_cmp-IsAntisymmetric}
 use Rattle.std.proofs.lemmas.List.{take_more}
 use Rattle.bs_outside.specs.Paths.{same_bytes}
 
@@ -18,12 +18,12 @@ pub set_more : (keys next : List (List ℕ)) (texts : List (List ℕ)) (i : ℕ)
     → from_list {R = slice_cmp nat_cmp} keys ≡ from_list (take i texts) → from_list {R = slice_cmp nat_cmp} next ≡ from_list (take (i + 1) texts)
 set_more keys next texts i text key lt is same updates before =
     let more : from_list {R = slice_cmp nat_cmp} (take (i + 1) texts) ≡ insert (from_list (take i texts)) text =
-        ap from_list (take_more texts i text lt ∙ ap (λ t. take i texts ++ t ∷ []) (sym is)) ∙ from_list_push nat_list_cmp_total (slice_cmp-IsAntisymmetric nat_cmp-IsAntisymmetric) (take i texts) text in
+    ap from_list (take_more texts i text lt ∙ ap (λ t. take i texts ++ t ∷ []) (sym is)) ∙ from_list_push nat_list_cmp_total (slice_cmp-IsAntisymmetric nat_cmp-IsAntisymmetric) (take i texts) text in
     let put : from_list {R = slice_cmp nat_cmp} next ≡ insert (from_list keys) text =
-        same_set nat_list_cmp_total (slice_cmp-IsAntisymmetric nat_cmp-IsAntisymmetric) _ _ (λ q.
-            contains-from_list nat_list_cmp_total next q ∙ updates q ∙ ap (λ k. cond (eq_by_cmp (slice_cmp nat_cmp) k q) true (list_any (eq_by_cmp (slice_cmp nat_cmp) q) keys)) same ∙ or_is_cond (eq_by_cmp (slice_cmp nat_cmp) text q) _
-            ∙ ap (λ b. b || list_any (eq_by_cmp (slice_cmp nat_cmp) q) keys) ((eq_by_cmp_equiv nat_list_cmp_total).symm text q)
-            ∙ sym (contains-insert nat_list_cmp_total (from_list keys) text q ∙ ap (λ b. eq_by_cmp (slice_cmp nat_cmp) q text || b) (contains-from_list nat_list_cmp_total keys q))) in
+    same_set nat_list_cmp_total (slice_cmp-IsAntisymmetric nat_cmp-IsAntisymmetric) _ _ (λ q.
+    contains-from_list nat_list_cmp_total next q ∙ updates q ∙ ap (λ k. cond (eq_by_cmp (slice_cmp nat_cmp) k q) true (list_any (eq_by_cmp (slice_cmp nat_cmp) q) keys)) same ∙ or_is_cond (eq_by_cmp (slice_cmp nat_cmp) text q) _
+    ∙ ap (λ b. b || list_any (eq_by_cmp (slice_cmp nat_cmp) q) keys) ((eq_by_cmp_equiv nat_list_cmp_total).symm text q)
+    ∙ sym (contains-insert nat_list_cmp_total (from_list keys) text q ∙ ap (λ b. eq_by_cmp (slice_cmp nat_cmp) q text || b) (contains-from_list nat_list_cmp_total keys q))) in
     put ∙ ap (λ s. insert s text) before ∙ sym more
 
 any_ties : (texts : List (List ℕ)) (q : List ℕ) → list_any (eq_by_cmp (slice_cmp nat_cmp) q) texts ≡ list_any (same_bytes q) texts

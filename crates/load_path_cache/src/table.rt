@@ -58,11 +58,7 @@ pub(crate) fn unknown_features(
 }
 
 /// Gives each of these features the place, in room that was made before.
-pub(crate) fn add_features(
-    table: &mut IndexMap<Text, Place>,
-    mut features: Vec<Text>,
-    place: Place,
-)
+pub(crate) fn add_features(table: &mut IndexMap<Text, Place>, mut features: Vec<Text>, place: Place)
     requires { vec_len features ≤ spare table.old }
     ensures { (f : List ℕ) → value_at table.new.entries f ≡ cond (list_any (same_bytes f) features.items) (Some place) (value_at table.old.entries f) }
 {

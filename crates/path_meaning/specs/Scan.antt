@@ -1,5 +1,5 @@
 -- The scan of a root of the load path, and the latest time of its folders.
-use Rattle.std.specs.Prelude.{ℕ, ◌-◌, ◌==◌, Bool, true, false, cond, not, nat_le, Option, None, Some, List, [], ◌∷◌, ◌++◌, length, take, drop, filter, codes}
+use Rattle.std.specs.Prelude.{ℕ, ◌-◌, ◌==◌, Bool, false, cond, not, max, Option, None, Some, List, [], ◌∷◌, ◌++◌, length, take, drop, filter, codes}
 use Rattle.std.specs.List.{list_all, flat_map}
 use Rattle.std.specs.FinMap as map
 use Rattle.bs_outside.specs.Paths.{segments_of, same_bytes}
@@ -48,7 +48,7 @@ folder_time (Some (item.Dir mtime)) = Some mtime
 abbrev pub later : Option ℕ → Option ℕ → Option ℕ
 later None b = None
 later (Some a) None = None
-later (Some a) (Some b) = Some (cond (nat_le a b) b a)
+later (Some a) (Some b) = Some (max a b)
 
 -- The greatest time of a root and of these folders below it, and nothing where one of them is no folder.
 abbrev pub latest_of : SourceTree → List ℕ → List (List ℕ) → Option ℕ

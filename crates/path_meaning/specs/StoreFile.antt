@@ -1,14 +1,12 @@
 -- The store file of the load path.
-use Rattle.std.specs.Prelude.{◌≡◌, ◌⊎◌, ℕ, ◌+◌, ◌^◌, ◌<◌, ◌≤◌, Bool, true, false, cond, ◌&&◌, nat_le, not, is_some, pos, Option, None, Some, IfSome, List, [], ◌∷◌, length, map, codes}
+use Rattle.std.specs.Prelude.{◌≡◌, ℕ, ◌+◌, ◌^◌, ◌<◌, ◌≤◌, Bool, true, false, cond, ◌&&◌, nat_le, nat_lt, not, is_some, pos, Option, None, Some, IfSome, List, [], ◌∷◌, length, map, codes}
 use Rattle.std.specs.List.{AllByRecursion}
 use Rattle.std.specs.List.Sorted.{IsStrictlySortedBy}
-use Rattle.std.specs.Option.{option_eq}
 use Rattle.std.specs.Ordering.{nat_cmp}
 use Rattle.std.specs.Cmp.Lexicographic.{slice_cmp}
 use Rattle.std.specs.FinMap as finite
 use Rattle.bs_outside.specs.Paths.{IsNormalPath}
 use Rattle.bs_outside.specs.SourceTree.{SourceTree, is_folder}
-use Rattle.bs_outside.specs.declared.trees.Item.{Item}
 use Rattle.msgpack_codec.specs.declared.value.Value.{Value}
 use Rattle.msgpack_codec.specs.declared.value.Value.TheVariants as value
 use Rattle.msgpack_codec.specs.Message.{SpellsMessage}
@@ -93,6 +91,14 @@ is_latest (Some kept) (Some now) = nat_le kept now && nat_le now kept
 abbrev pub is_valid_item : SourceTree → List ℕ → Bool → Option RootScan → Bool
 is_valid_item tree root stable None = false
 is_valid_item tree root stable (Some kept) = cond stable (not (is_some kept.latest)) (is_latest kept.latest (latest_of tree root kept.dirs))
+
+-- A scan is kept where its root is a folder, it has few names, and fewer than 16,777,216 other roots have items.
+abbrev pub may_keep : Store → List ℕ → RootScan → Bool
+may_keep store root scan = is_some scan.latest && (few_names scan && nat_lt (finite.len (finite.remove store root)) 16777216)
+
+-- a store after a scan of a root was put into it: the root has the scan's item, or none; the items of other roots stay
+abbrev pub store_with : Store → List ℕ → RootScan → Bool → Store
+store_with store root scan stable = cond (may_keep store root scan) (finite.insert store root (as_item scan stable)) (finite.remove store root)
 
 -- what a scan has to be so that it can be kept
 pub record CanBeKept (scan : RootScan) : Type 0 where

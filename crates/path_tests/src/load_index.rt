@@ -31,7 +31,11 @@ fn the_first_root_is_found(rt: HostRuntime) -> Result<(), Fail> {
     let alloc = rt.alloc();
     let mut index = LoadIndex::new(alloc);
     assert!(rt; index.is_empty());
-    index.push(alloc, &text(alloc, "/lib")?, &scan(alloc, &["a.rb", "b.rb"])?)?;
+    index.push(
+        alloc,
+        &text(alloc, "/lib")?,
+        &scan(alloc, &["a.rb", "b.rb"])?,
+    )?;
     index.unshift(alloc, &text(alloc, "/alt")?, &scan(alloc, &["a.rb"])?)?;
     assert_eq!(rt; index.table().len(), 2);
     assert_eq!(rt; found(&index, alloc, "a.rb")?, Some(0));
@@ -46,7 +50,11 @@ fn the_first_root_is_found(rt: HostRuntime) -> Result<(), Fail> {
 fn a_root_that_goes_leaves_its_features_to_the_next(rt: HostRuntime) -> Result<(), Fail> {
     let alloc = rt.alloc();
     let mut index = LoadIndex::new(alloc);
-    index.push(alloc, &text(alloc, "/lib")?, &scan(alloc, &["a.rb", "b.rb"])?)?;
+    index.push(
+        alloc,
+        &text(alloc, "/lib")?,
+        &scan(alloc, &["a.rb", "b.rb"])?,
+    )?;
     index.unshift(alloc, &text(alloc, "/alt")?, &scan(alloc, &["a.rb"])?)?;
     index.delete(&text(alloc, "/alt")?);
     assert_eq!(rt; index.table().len(), 2);
