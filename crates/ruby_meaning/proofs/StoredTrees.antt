@@ -205,8 +205,8 @@ module _ (asked : Asked) (files : Files) (are : ArePlaced files) (held : asked.i
           by = λ w q z. part_out asked c w (run files fuel b a (in_sequence s.first frame) w) ((keep_run (outside_clause c) y a (in_sequence s.first frame) p j).by w (part_in asked c y frame s.first w q) z);
         })
     keep_form c y (method x t on_self) s frame e p j = keep_define_method (in_frame asked c y frame) c frame (classes_of asked c y frame) t p j s.line x on_self
-    keep_form c y (class o x t) s frame e p j = keep_class c y o x frame s.line _ p.0 (λ g. (j g).0) (keep_open_class (in_frame asked c y frame) c frame (classes_of asked c y frame) s.line t _ (λ n i. keep_run (at_home placement.in_class) (λ g. body_sight t) t (class_frame frame s.line t n i) p.1 (λ g. (j g).1.0)))
-    keep_form c y (module_named x t) s frame e p j = keep_module_named (in_frame asked c y frame) c frame (classes_of asked c y frame) x _ (keep_open_class (in_frame asked c y frame) c frame (classes_of asked c y frame) s.line t _ (λ n i. keep_run (at_home placement.in_class) (λ g. body_sight t) t (class_frame frame s.line t n i) p (λ g. (j g).0))) s.line
+    keep_form c y (class o x t) s frame e p j = keep_class c y o x frame s.line _ p.0 (λ g. (j g).0) (keep_open_class (in_frame asked c y frame) c frame (classes_of asked c y frame) s.line t (run files fuel b t) (λ n i. keep_run (at_home placement.in_class) (λ g. body_sight t) t (class_frame frame s.line t n i) p.1 (λ g. (j g).1.0)))
+    keep_form c y (module_named x t) s frame e p j = keep_module_named (in_frame asked c y frame) c frame (classes_of asked c y frame) x _ (keep_open_class (in_frame asked c y frame) c frame (classes_of asked c y frame) s.line t (run files fuel b t) (λ n i. keep_run (at_home placement.in_class) (λ g. body_sight t) t (class_frame frame s.line t n i) p (λ g. (j g).0))) s.line
     keep_form c y (body ps t) s frame e p j = keep_defaults c y ps frame frame.given _ p.0 (λ g. (j g).0) (keep_run c y t frame p.1 (λ g. (j g).1))
 
     keep_all : (c : Around) (y : asked.is → Sight) (ts : Trees) (frame : Frame) (v : Value) → TreesPlaced c ts → ((g : asked.is) → TreesHoused (asked.told frame.code.source) (y g) ts) → Keeps (in_frame asked c y frame) c (run_all files fuel b ts frame v)
