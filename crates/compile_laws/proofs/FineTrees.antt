@@ -1,5 +1,5 @@
 -- The code of each tree has operands that are right, where its locals are held and its sequences are known.
-use Rattle.std.proofs.Common.{◌≡◌, ℕ, suc, ◌+◌, ◌*◌, ◌%◌, ◌≤◌, ◌<◌, ◌⊎◌, inl, inr, Bool, true, false, refl, sym, subst, ◌∙◌, arith, List, [], ◌∷◌, ◌++◌, length, Some}
+use Rattle.std.proofs.Common.{◌≡◌, ℕ, suc, ◌+◌, ◌*◌, ◌%◌, ◌≤◌, ◌<◌, ◌⊎◌, inl, inr, Bool, true, false, refl, sym, subst, ◌∙◌, arith, List, [], ◌∷◌, ◌++◌, length, Some, None}
 use Rattle.std.specs.Prelude.{⊤, codes, slice_get}
 use Rattle.std.specs.List.{AllByRecursion}
 use Rattle.std.proofs.lemmas.List.Elements.{All-nil}
@@ -247,7 +247,7 @@ module _ (rows : List IndexRow) (id : ℕ) (kind : SeqKind) where
   operated_fine {b} line call at_line depth f x n r e g = deeper g (next (plain_well rows id kind b f 1 0 (inl refl)) (by_send_fine rows id kind line call depth x n r e none))
 
   mutual
-    tree_fine : (t : Tree) (l : Where) (k b : Bool) → S l k → IsFormed k t → IsHoused l.sight t → C l (sequences l t) → F b (shape l t)
+    tree_fine : (t : Tree) (l : Where) (k b : Bool) → S l k → IsFormed k t → IsHoused None l.sight t → C l (sequences l t) → F b (shape l t)
     tree_fine (at s nil_value) l k b a f h c = next free none
     tree_fine (at s true_value) l k b a f h c = next free none
     tree_fine (at s false_value) l k b a f h c = next free none
@@ -363,28 +363,28 @@ module _ (rows : List IndexRow) (id : ℕ) (kind : SeqKind) where
     tree_fine (at s (ensure_sequence t)) l k b a f h c = absurd f
     tree_fine (at s (body ps t)) l k b a f h c = absurd f
 
-    trees_all : (ts : Trees) (l : Where) (k : Bool) → S l k → TreesFormed k ts → TreesHoused l.sight ts → C l (trees_sequences l ts) → TreesFine l ts
+    trees_all : (ts : Trees) (l : Where) (k : Bool) → S l k → TreesFormed k ts → TreesHoused None l.sight ts → C l (trees_sequences l ts) → TreesFine l ts
     trees_all no_more l k a f h c = tt
     trees_all (more t ts) l k a f h c =
         let d = two l (sequences l t) (trees_sequences l ts) c in (λ b. tree_fine t l k b a f.0 h.0 d.0, trees_all ts l k a f.1 h.1 d.1)
 
-    other_all : (o : Other) (l : Where) (k : Bool) → S l k → OtherFormed k o → OtherHoused l.sight o → C l (other_sequences l o) → OtherFine l o
+    other_all : (o : Other) (l : Where) (k : Bool) → S l k → OtherFormed k o → OtherHoused None l.sight o → C l (other_sequences l o) → OtherFine l o
     other_all without l k a f h c = tt
     other_all (with t) l k a f h c = λ b. tree_fine t l k b a f h c
 
-    pairs_all : (ps : Pairs) (l : Where) (k : Bool) → S l k → PairsFormed k ps → PairsHoused l.sight ps → C l (pairs_sequences l ps) → PairsFine l ps
+    pairs_all : (ps : Pairs) (l : Where) (k : Bool) → S l k → PairsFormed k ps → PairsHoused None l.sight ps → C l (pairs_sequences l ps) → PairsFine l ps
     pairs_all no_pair l k a f h c = tt
     pairs_all (pair t u ps) l k a f h c =
         let d = three l (sequences l t) (sequences l u) (pairs_sequences l ps) c in
         (λ b. tree_fine t l k b a f.0 h.0 d.0, λ b. tree_fine u l k b a f.1.0 h.1.0 d.1, pairs_all ps l k a f.1.1 h.1.1 d.2)
 
-    pieces_all : (ps : Pieces) (l : Where) (k : Bool) → S l k → PiecesFormed k ps → PiecesHoused l.sight ps → C l (pieces_sequences l ps) → PiecesFine l ps
+    pieces_all : (ps : Pieces) (l : Where) (k : Bool) → S l k → PiecesFormed k ps → PiecesHoused None l.sight ps → C l (pieces_sequences l ps) → PiecesFine l ps
     pieces_all no_piece l k a f h c = tt
     pieces_all (plain_piece x ps) l k a f h c = pieces_all ps l k a f h c
     pieces_all (code_piece t ps) l k a f h c =
         let d = two l (sequences l t) (pieces_sequences l ps) c in (λ b. tree_fine t l k b a f.0 h.0 d.0, pieces_all ps l k a f.1 h.1 d.1)
 
-    whens_all : (ws : Whens) (l : Where) (k : Bool) → S l k → WhensFormed k ws → WhensHoused l.sight ws → C l (whens_sequences l ws) → WhensFine l ws
+    whens_all : (ws : Whens) (l : Where) (k : Bool) → S l k → WhensFormed k ws → WhensHoused None l.sight ws → C l (whens_sequences l ws) → WhensFine l ws
     whens_all no_when l k a f h c = tt
     whens_all (when ts t ws) l k a f h c =
         let d = three l (trees_sequences l ts) (sequences l t) (whens_sequences l ws) c in
@@ -395,19 +395,19 @@ module _ (rows : List IndexRow) (id : ℕ) (kind : SeqKind) where
   leave_fine : (b : Bool) → ¬ (kind ≡ kinds.Ensure) → IsFine rows id kind b Leave
   leave_fine b e = (tt, tt, tt, tt, e)
 
-  clauses_fine : {b : Bool} (l : Where) (k : Bool) (cs : Rescues) (line far : ℕ) {s : Shape} → S l k → ClausesFormed k cs → ClausesHoused l.sight cs → C l (clauses_sequences l cs) → F b s → F b (clauses_shape l cs line far s)
+  clauses_fine : {b : Bool} (l : Where) (k : Bool) (cs : Rescues) (line far : ℕ) {s : Shape} → S l k → ClausesFormed k cs → ClausesHoused None l.sight cs → C l (clauses_sequences l cs) → F b s → F b (clauses_shape l cs line far s)
   clauses_fine l k no_clause line far a f h c g = g
   clauses_fine l k (clause ts x t cs) line far a f h c g =
       let d = three l (trees_sequences l ts) (sequences l t) (clauses_sequences l cs) c in
       clause_fine l ts line _ (trees_all ts l k a f.0 h.0 d.0) (clauses_fine l k cs line _ a f.1.1 h.1.1.1 d.2 g)
 
-  bodies_fine : (b : Bool) (l : Where) (k : Bool) (cs : Rescues) (line : ℕ) → ¬ (kind ≡ kinds.Ensure) → S l k → ClausesFormed k cs → ClausesHoused l.sight cs → C l (clauses_sequences l cs) → F b (bodies_shape l cs line)
+  bodies_fine : (b : Bool) (l : Where) (k : Bool) (cs : Rescues) (line : ℕ) → ¬ (kind ≡ kinds.Ensure) → S l k → ClausesFormed k cs → ClausesHoused None l.sight cs → C l (clauses_sequences l cs) → F b (bodies_shape l cs line)
   bodies_fine b l k no_clause line e a f h c = none
   bodies_fine b l k (clause ts x t cs) line e a f h c =
       let d = three l (trees_sequences l ts) (sequences l t) (clauses_sequences l cs) c in
       named_fine rows id kind l k line x a h.1.0 (deeper (tree_fine t l k b a f.1.0 h.1.1.0 d.1) (next (leave_fine b e) (bodies_fine b l k cs line e a f.1.1 h.1.1.1 d.2)))
 
-  params_fine : {b : Bool} (l : Where) (ps : Params) {s : Shape} → S l false → ParamsFormed false ps → ParamsHoused l.sight ps → C l (params_sequences l ps) → F b s → F b (params_shape l ps s)
+  params_fine : {b : Bool} (l : Where) (ps : Params) {s : Shape} → S l false → ParamsFormed false ps → ParamsHoused None l.sight ps → C l (params_sequences l ps) → F b s → F b (params_shape l ps s)
   params_fine l no_param a f h c g = g
   params_fine l (required x ps) a f h c g = params_fine l ps a f h.1 c g
   params_fine {b} l (optional x t ps) a f h c g =
@@ -416,19 +416,19 @@ module _ (rows : List IndexRow) (id : ℕ) (kind : SeqKind) where
   params_fine l (rest_param x ps) a f h c g = params_fine l ps a f h.1 c g
   params_fine l (block_param x ps) a f h c g = params_fine l ps a f h.1 c g
 
-  pub body_fine : (l : Where) (t : Tree) → ¬ (kind ≡ kinds.Ensure) → S l false → IsBody t → IsHoused l.sight t → C l (sequences l t) → F false (shape l t)
+  pub body_fine : (l : Where) (t : Tree) → ¬ (kind ≡ kinds.Ensure) → S l false → IsBody t → IsHoused None l.sight t → C l (sequences l t) → F false (shape l t)
   body_fine l (at s (body ps t)) e a f h c =
       let d = two l (params_sequences l ps) (sequences l t) c in
       params_fine l ps a f.1.0 h.0 d.0 (deeper (tree_fine t l false false a f.1.1 h.1 d.1) (next (leave_fine false e) none))
   body_fine l (at s f) e a g h c = absurd g
 
-  pub rescue_part_fine : (l : Where) (t : Tree) → kind ≡ kinds.Rescue → S l true → IsRescuePart t → IsHoused l.sight t → C l (sequences l t) → F false (shape l t)
+  pub rescue_part_fine : (l : Where) (t : Tree) → kind ≡ kinds.Rescue → S l true → IsRescuePart t → IsHoused None l.sight t → C l (sequences l t) → F false (shape l t)
   rescue_part_fine l (at s (rescue_sequence cs)) e a f h c =
       clauses_fine l true cs (own l s) 0 a f h c (next (tt, tt, tt, tt, (omega arith, λ z. inl e, λ z. absurd (omega (arith, z))))
       (bodies_fine false l true cs (own l s) (λ z. not_both (sym e ∙ z)) a f h c))
   rescue_part_fine l (at s f) e a g h c = absurd g
 
-  pub ensure_part_fine : (l : Where) (t : Tree) → kind ≡ kinds.Ensure → S l false → IsEnsurePart t → IsHoused l.sight t → C l (sequences l t) → F false (shape l t)
+  pub ensure_part_fine : (l : Where) (t : Tree) → kind ≡ kinds.Ensure → S l false → IsEnsurePart t → IsHoused None l.sight t → C l (sequences l t) → F false (shape l t)
   ensure_part_fine l (at s (ensure_sequence t)) e a f h c =
       deeper (tree_fine t l false false a f h c) (next free (next (tt, tt, tt, tt, (omega arith, λ z. inr e, λ z. absurd (omega (arith, z)))) none))
   ensure_part_fine l (at s f) e a g h c = absurd g

@@ -1,5 +1,5 @@
 -- A program's tables have its sequences under their numbers, and all is found that its bodies have.
-use Rattle.std.proofs.Common.{◌≡◌, ℕ, zero, suc, ◌<◌, false, nat_eq, refl, sym, ap, ◌∙◌, subst, List, length, get_or, All, arith}
+use Rattle.std.proofs.Common.{◌≡◌, ℕ, zero, suc, ◌<◌, false, nat_eq, refl, sym, ap, ◌∙◌, subst, List, length, get_or, All, arith, None}
 use Rattle.std.specs.List.{AllByRecursion, IsDistinct}
 use Rattle.std.proofs.lemmas.List.Elements.{All-from_recursion}
 use Rattle.ruby_tree.specs.Names.{Bytes}
@@ -18,7 +18,7 @@ use Rattle.compile_laws.proofs.FoundTrees.{Have, IsKnown, Sees, Told, tree_told}
 abbrev wheres : Bytes → Tree → ℕ → Where
 wheres path t n = (sequence_at path t n).inner
 
-module _ (path : Bytes) (t : Tree) (fm : IsFormed false t) (hs : IsHoused (file_sight t) t) (apart : IsDistinct nat_eq (places t)) where
+module _ (path : Bytes) (t : Tree) (fm : IsFormed false t) (hs : IsHoused None (file_sight t) t) (apart : IsDistinct nat_eq (places t)) where
   -- those that stand in the file
   abbrev within : List Compiled
   within = sequences (in_file path t) t

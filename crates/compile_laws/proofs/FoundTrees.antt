@@ -1,5 +1,5 @@
 -- Where the tables have each sequence of a tree, all that is to be found in the tree is found, and its sequences have the places of the tree.
-use Rattle.std.proofs.Common.{◌≡◌, ℕ, true, false, refl, sym, ap, ap₂, ◌∙◌, subst, List, [], ◌∷◌, ◌++◌}
+use Rattle.std.proofs.Common.{◌≡◌, ℕ, true, false, refl, sym, ap, ap₂, ◌∙◌, subst, List, [], ◌∷◌, ◌++◌, None}
 use Rattle.std.specs.List.{AllByRecursion}
 use Rattle.std.proofs.lemmas.List.{map-append}
 use Rattle.ruby_tree.specs.Names.{Bytes}
@@ -172,10 +172,10 @@ module _ (seqs : ℕ → Routine) (bodies : ℕ → Tree) (wheres : ℕ → Wher
   ensure_parts l s f = record { no_body = λ k. k; number = refl; sees = refl }
 
   mutual
-    pub tree_told : (t : Tree) (l : Where) → IsFormed l.clause t → IsHoused l.sight t → Told l.path l.places (Sees l) (Finds seqs bodies l t) (sequences l t) (places t)
+    pub tree_told : (t : Tree) (l : Where) → IsFormed l.clause t → IsHoused None l.sight t → Told l.path l.places (Sees l) (Finds seqs bodies l t) (sequences l t) (places t)
     tree_told (at s f) l fm hs = form_told f s l fm hs
 
-    form_told : (f : Form) (s : SourcePosition) (l : Where) → FormFormed l.clause f → FormHoused l.sight f → Told l.path l.places (Sees l) (FindsForm seqs bodies l f) (form_sequences l f) (form_places s.place f)
+    form_told : (f : Form) (s : SourcePosition) (l : Where) → FormFormed l.clause f → FormHoused None l.sight f → Told l.path l.places (Sees l) (FindsForm seqs bodies l f) (form_sequences l f) (form_places s.place f)
     form_told nil_value s l fm hs = none tt
     form_told true_value s l fm hs = none tt
     form_told false_value s l fm hs = none tt
@@ -227,64 +227,64 @@ module _ (seqs : ℕ → Routine) (bodies : ℕ → Tree) (wheres : ℕ → Wher
     form_told (ensure a (at r f)) s l fm hs = read (λ x. (x.0, x.1.0, x.1.1)) (tree_told a l fm.0 hs.0 ⊕ ensure_told f r l (in_ensure l (at r f)) refl (ensure_parts l r f) fm.1 hs.1)
     form_told (rescue_sequence cs) s l fm hs = absurd fm
     form_told (ensure_sequence a) s l fm hs = absurd fm
-    form_told (method x t f) s l fm hs = body_told t l (in_body l t) kinds.Method x (method_opens l t) fm hs
-    form_told (class o x t) s l fm hs = other_told o l fm.0 hs.0 ⊕ body_told t l (in_body l t) kinds.Class x (class_opens l t) fm.1.0 hs.1
-    form_told (module_named x t) s l fm hs = body_told t l (in_body l t) kinds.Class x (class_opens l t) fm.0 hs
+    form_told (method x t f) s l fm hs = body_told t l (in_body l t) kinds.Method x (method_opens l t) fm hs.0
+    form_told (class o x t) s l fm hs = other_told o l fm.0 hs.0 ⊕ body_told t l (in_body l t) kinds.Class x (class_opens l t) fm.1.0 hs.1.0
+    form_told (module_named x t) s l fm hs = body_told t l (in_body l t) kinds.Class x (class_opens l t) fm.0 hs.0
     form_told (body ps t) s l fm hs = absurd fm
 
-    body_told : (t : Tree) (l inner : Where) (kind : SeqKind) (x : Bytes) → Opens l inner kind t → IsBody t → IsHoused inner.sight t
+    body_told : (t : Tree) (l inner : Where) (kind : SeqKind) (x : Bytes) → Opens l inner kind t → IsBody t → IsHoused None inner.sight t
         → Told inner.path inner.places (Sees l) (bodies (sequence_number inner.places (place_of t)) ≡ t) (compiled_body l inner kind x t ∷ sequences inner t) (places t)
     body_told (at s f) l inner kind x o fm hs = body_form_told f s l inner kind x o fm hs
 
-    body_form_told : (f : Form) (s : SourcePosition) (l inner : Where) (kind : SeqKind) (x : Bytes) → Opens l inner kind (at s f) → IsBodyForm f → FormHoused inner.sight f
+    body_form_told : (f : Form) (s : SourcePosition) (l inner : Where) (kind : SeqKind) (x : Bytes) → Opens l inner kind (at s f) → IsBodyForm f → FormHoused None inner.sight f
         → Told inner.path inner.places (Sees l) (bodies (sequence_number inner.places s.place) ≡ at s f) (compiled_body l inner kind x (at s f) ∷ sequences inner (at s f)) (places (at s f))
     body_form_told (body ps t) s l inner kind x o fm hs =
         begun s ps t l inner kind x o (params_told ps inner (subst (λ c. ParamsFormed c ps) (sym o.no_clause) fm.1.0) hs.0 ⊕ tree_told t inner (subst (λ c. IsFormed c t) (sym o.no_clause) fm.1.1) hs.1)
     body_form_told f s l inner kind x o fm hs = absurd fm
 
     -- a call with a block value has no literal block
-    block_told : (t v : Other) (l : Where) → HasOneBlock v t → BlockFormed t → BlockHoused l.sight t → Told l.path l.places (Sees l) (FindsBlock seqs bodies l t v) (block_sequences l t) (other_places t)
+    block_told : (t v : Other) (l : Where) → HasOneBlock v t → BlockFormed t → BlockHoused None l.sight t → Told l.path l.places (Sees l) (FindsBlock seqs bodies l t v) (block_sequences l t) (other_places t)
     block_told without v l one fm hs = none tt
-    block_told (with t) without l one fm hs = body_told t l (in_block l t) kinds.Block [] (block_opens l t) fm hs
+    block_told (with t) without l one fm hs = body_told t l (in_block l t) kinds.Block [] (block_opens l t) fm hs.0
     block_told (with t) (with u) l one fm hs = absurd one
 
-    rescue_told : (f : Form) (s : SourcePosition) (l inner : Where) → inner.clause ≡ true → Parts l inner kinds.Rescue s f → IsRescueForm f → FormHoused inner.sight f
+    rescue_told : (f : Form) (s : SourcePosition) (l inner : Where) → inner.clause ≡ true → Parts l inner kinds.Rescue s f → IsRescueForm f → FormHoused None inner.sight f
         → Told inner.path inner.places (Sees l) ((seqs (sequence_number inner.places s.place) ≡ part_routine inner kinds.Rescue (at s f)) × FindsRescueForm seqs bodies inner f) (compiled_part l inner kinds.Rescue (at s f) ∷ sequences inner (at s f)) (places (at s f))
     rescue_told (rescue_sequence cs) s l inner e n fm hs = parted s (rescue_sequence cs) l inner kinds.Rescue n (clauses_told cs inner (subst (λ c. ClausesFormed c cs) (sym e) fm) hs)
     rescue_told f s l inner e n fm hs = absurd fm
 
-    ensure_told : (f : Form) (s : SourcePosition) (l inner : Where) → inner.clause ≡ false → Parts l inner kinds.Ensure s f → IsEnsureForm f → FormHoused inner.sight f
+    ensure_told : (f : Form) (s : SourcePosition) (l inner : Where) → inner.clause ≡ false → Parts l inner kinds.Ensure s f → IsEnsureForm f → FormHoused None inner.sight f
         → Told inner.path inner.places (Sees l) ((seqs (sequence_number inner.places s.place) ≡ part_routine inner kinds.Ensure (at s f)) × FindsEnsureForm seqs bodies inner f) (compiled_part l inner kinds.Ensure (at s f) ∷ sequences inner (at s f)) (places (at s f))
     ensure_told (ensure_sequence a) s l inner e n fm hs = parted s (ensure_sequence a) l inner kinds.Ensure n (tree_told a inner (subst (λ c. IsFormed c a) (sym e) fm) hs)
     ensure_told f s l inner e n fm hs = absurd fm
 
-    trees_told : (ts : Trees) (l : Where) → TreesFormed l.clause ts → TreesHoused l.sight ts → Told l.path l.places (Sees l) (FindsTrees seqs bodies l ts) (trees_sequences l ts) (trees_places ts)
+    trees_told : (ts : Trees) (l : Where) → TreesFormed l.clause ts → TreesHoused None l.sight ts → Told l.path l.places (Sees l) (FindsTrees seqs bodies l ts) (trees_sequences l ts) (trees_places ts)
     trees_told no_more l fm hs = none tt
     trees_told (more t ts) l fm hs = tree_told t l fm.0 hs.0 ⊕ trees_told ts l fm.1 hs.1
 
-    other_told : (o : Other) (l : Where) → OtherFormed l.clause o → OtherHoused l.sight o → Told l.path l.places (Sees l) (FindsOther seqs bodies l o) (other_sequences l o) (other_places o)
+    other_told : (o : Other) (l : Where) → OtherFormed l.clause o → OtherHoused None l.sight o → Told l.path l.places (Sees l) (FindsOther seqs bodies l o) (other_sequences l o) (other_places o)
     other_told without l fm hs = none tt
     other_told (with t) l fm hs = tree_told t l fm hs
 
-    pairs_told : (ps : Pairs) (l : Where) → PairsFormed l.clause ps → PairsHoused l.sight ps → Told l.path l.places (Sees l) (FindsPairs seqs bodies l ps) (pairs_sequences l ps) (pairs_places ps)
+    pairs_told : (ps : Pairs) (l : Where) → PairsFormed l.clause ps → PairsHoused None l.sight ps → Told l.path l.places (Sees l) (FindsPairs seqs bodies l ps) (pairs_sequences l ps) (pairs_places ps)
     pairs_told no_pair l fm hs = none tt
     pairs_told (pair t u ps) l fm hs = three (tree_told t l fm.0 hs.0) (tree_told u l fm.1.0 hs.1.0) (pairs_told ps l fm.1.1 hs.1.1)
 
-    pieces_told : (ps : Pieces) (l : Where) → PiecesFormed l.clause ps → PiecesHoused l.sight ps → Told l.path l.places (Sees l) (FindsPieces seqs bodies l ps) (pieces_sequences l ps) (pieces_places ps)
+    pieces_told : (ps : Pieces) (l : Where) → PiecesFormed l.clause ps → PiecesHoused None l.sight ps → Told l.path l.places (Sees l) (FindsPieces seqs bodies l ps) (pieces_sequences l ps) (pieces_places ps)
     pieces_told no_piece l fm hs = none tt
     pieces_told (plain_piece x ps) l fm hs = pieces_told ps l fm hs
     pieces_told (code_piece t ps) l fm hs = tree_told t l fm.0 hs.0 ⊕ pieces_told ps l fm.1 hs.1
 
-    whens_told : (ws : Whens) (l : Where) → WhensFormed l.clause ws → WhensHoused l.sight ws → Told l.path l.places (Sees l) (FindsWhens seqs bodies l ws) (whens_sequences l ws) (whens_places ws)
+    whens_told : (ws : Whens) (l : Where) → WhensFormed l.clause ws → WhensHoused None l.sight ws → Told l.path l.places (Sees l) (FindsWhens seqs bodies l ws) (whens_sequences l ws) (whens_places ws)
     whens_told no_when l fm hs = none tt
     whens_told (when ts t ws) l fm hs = three (trees_told ts l fm.0 hs.0) (tree_told t l fm.1.0 hs.1.0) (whens_told ws l fm.1.1 hs.1.1)
 
-    clauses_told : (cs : Rescues) (l : Where) → ClausesFormed l.clause cs → ClausesHoused l.sight cs → Told l.path l.places (Sees l) (FindsClauses seqs bodies l cs) (clauses_sequences l cs) (clauses_places cs)
+    clauses_told : (cs : Rescues) (l : Where) → ClausesFormed l.clause cs → ClausesHoused None l.sight cs → Told l.path l.places (Sees l) (FindsClauses seqs bodies l cs) (clauses_sequences l cs) (clauses_places cs)
     clauses_told no_clause l fm hs = none tt
     clauses_told (clause ts x t cs) l fm hs =
         read (λ y. (y.0, hs.1.0, y.1, y.2)) (three (trees_told ts l fm.0 hs.0) (tree_told t l fm.1.0 hs.1.1.0) (clauses_told cs l fm.1.1 hs.1.1.1))
 
-    params_told : (ps : Params) (l : Where) → ParamsFormed l.clause ps → ParamsHoused l.sight ps → Told l.path l.places (Sees l) (FindsParams seqs bodies l ps) (params_sequences l ps) (params_places ps)
+    params_told : (ps : Params) (l : Where) → ParamsFormed l.clause ps → ParamsHoused None l.sight ps → Told l.path l.places (Sees l) (FindsParams seqs bodies l ps) (params_sequences l ps) (params_places ps)
     params_told no_param l fm hs = none tt
     params_told (required x ps) l fm hs = params_told ps l fm hs.1
     params_told (optional x t ps) l fm hs = read (λ y. (hs.0, y.0, y.1)) (tree_told t l fm.0 hs.1.0 ⊕ params_told ps l fm.1 hs.1.1)

@@ -1,5 +1,5 @@
 -- Each sequence whose tree is formed, whose locals are held and whose children are known is sound.
-use Rattle.std.proofs.Common.{◌≡◌, ◌≢◌, ℕ, inl, Bool, true, false, refl, sym, ap, ◌∙◌, arith, List, Some}
+use Rattle.std.proofs.Common.{◌≡◌, ◌≢◌, ℕ, inl, Bool, true, false, refl, sym, ap, ◌∙◌, arith, List, Some, None}
 use Rattle.std.specs.Prelude.{slice_get, option_map, unwrap_or}
 use Rattle.ruby_tree.specs.Names.{Bytes}
 use Rattle.ruby_tree.specs.Tree.{Tree, at, body}
@@ -61,7 +61,7 @@ module _ (rows : List IndexRow) (index : AreIndexRows rows) where
       ends : EndsRight (with_code seq h s) (kind_of rows id)
       ends = record { last = e; leave = o.leaves }
 
-  pub sound_body : (l inner : Where) (kind : SeqKind) (name : Bytes) (t : Tree) → HasRow (compiled_body l inner kind name t) → start_depth kind ≡ 0 → kind ≢ kinds.Ensure → IsBody t → IsHoused inner.sight t → IsHomed inner
+  pub sound_body : (l inner : Where) (kind : SeqKind) (name : Bytes) (t : Tree) → HasRow (compiled_body l inner kind name t) → start_depth kind ≡ 0 → kind ≢ kinds.Ensure → IsBody t → IsHoused None inner.sight t → IsHomed inner
       → Children rows (sequences inner t) → IsSound (body_sequence inner name t) rows inner.number
   sound_body l inner kind name (at s (body ps u)) row start ens f h home c =
       assembled (body_sequence inner name (at s (body ps u))) inner.number 0 (shape inner (at s (body ps u)))
@@ -79,7 +79,7 @@ module _ (rows : List IndexRow) (index : AreIndexRows rows) where
       same = kind_at inner.number (index_row (compiled_body l inner kind name (at s (body ps u)))) row
   sound_body l inner kind name (at s f) row start ens g h home c = absurd g
 
-  pub sound_rescue : (l inner : Where) (t : Tree) → HasRow (compiled_part l inner kinds.Rescue t) → IsRescuePart t → IsHoused inner.sight t → IsHomed inner → Children rows (sequences inner t) → IsSound (part_sequence inner kinds.Rescue t) rows inner.number
+  pub sound_rescue : (l inner : Where) (t : Tree) → HasRow (compiled_part l inner kinds.Rescue t) → IsRescuePart t → IsHoused None inner.sight t → IsHomed inner → Children rows (sequences inner t) → IsSound (part_sequence inner kinds.Rescue t) rows inner.number
   sound_rescue l inner t row f h home c =
       assembled (part_sequence inner kinds.Rescue t) inner.number 1 (shape inner t)
       (has_depths (part_sequence inner kinds.Rescue t) (kind_of rows inner.number) 1 (shape inner t) (rescue_part_fits inner 1 t (omega arith) f) (sym (ap start_depth same)) tt)
@@ -91,7 +91,7 @@ module _ (rows : List IndexRow) (index : AreIndexRows rows) where
       same : kind_of rows inner.number ≡ kinds.Rescue
       same = kind_at inner.number (index_row (compiled_part l inner kinds.Rescue t)) row
 
-  pub sound_ensure : (l inner : Where) (t : Tree) → HasRow (compiled_part l inner kinds.Ensure t) → IsEnsurePart t → IsHoused inner.sight t → IsHomed inner → Children rows (sequences inner t) → IsSound (part_sequence inner kinds.Ensure t) rows inner.number
+  pub sound_ensure : (l inner : Where) (t : Tree) → HasRow (compiled_part l inner kinds.Ensure t) → IsEnsurePart t → IsHoused None inner.sight t → IsHomed inner → Children rows (sequences inner t) → IsSound (part_sequence inner kinds.Ensure t) rows inner.number
   sound_ensure l inner t row f h home c =
       assembled (part_sequence inner kinds.Ensure t) inner.number 0 (shape inner t)
       (has_depths (part_sequence inner kinds.Ensure t) (kind_of rows inner.number) 0 (shape inner t) (ensure_part_fits inner 0 t f) (sym (ap start_depth same)) tt)

@@ -1,5 +1,5 @@
 -- The sequences of a program are sound, and its unit can be dumped.
-use Rattle.std.proofs.Common.{◌≡◌, ℕ, ◌≤◌, ◌<◌, false, nat_eq, refl, sym, subst, ap, ◌∙◌, arith, List, [], length, get_or, map, Some}
+use Rattle.std.proofs.Common.{◌≡◌, ℕ, ◌≤◌, ◌<◌, false, nat_eq, refl, sym, subst, ap, ◌∙◌, arith, List, [], length, get_or, map, Some, None}
 use Rattle.std.specs.Prelude.{slice_get, unwrap_or}
 use Rattle.std.specs.List.{AllByRecursion, IsDistinct}
 use Rattle.std.proofs.lemmas.List.Elements.{All-from_recursion}
@@ -34,7 +34,7 @@ use Rattle.compile_laws.proofs.SoundBodies.{HasRow, IsHomed, locals_at, sound_bo
 use Rattle.compile_laws.proofs.SoundTrees.{SoundAt, trees_in}
 use Rattle.compile_laws.proofs.TextsRise.{index_is}
 
-module _ (path : Bytes) (t : Tree) (fm : IsFormed false t) (hs : IsHoused (file_sight t) t) (apart : IsDistinct nat_eq (places t)) (index : AreIndexRows (unit_of path t).rows) where
+module _ (path : Bytes) (t : Tree) (fm : IsFormed false t) (hs : IsHoused None (file_sight t) t) (apart : IsDistinct nat_eq (places t)) (index : AreIndexRows (unit_of path t).rows) where
   abbrev rows : List IndexRow
   rows = (unit_of path t).rows
 

@@ -1,5 +1,5 @@
 -- The sequences of a tree are sound, where the index has a row for each.
-use Rattle.std.proofs.Common.{◌≡◌, Bool, true, false, refl, sym, subst, List, [], ◌∷◌, ◌++◌}
+use Rattle.std.proofs.Common.{◌≡◌, Bool, true, false, refl, sym, subst, List, [], ◌∷◌, ◌++◌, None}
 use Rattle.std.specs.List.{AllByRecursion}
 use Rattle.std.proofs.ByRecursion.{All-append}
 use Rattle.ruby_tree.specs.Names.{Bytes}
@@ -67,7 +67,7 @@ module _ (rows : List IndexRow) (index : AreIndexRows rows) where
   three_sound xs ys zs c f g h = both_sound xs (ys ++ zs) c f (λ d. both_sound ys zs d g h)
 
   mutual
-    pub trees_in : (t : Tree) (l : Where) (k : Bool) → IsFormed k t → IsHoused l.sight t → H l → C (sequences l t) → AllSound (sequences l t)
+    pub trees_in : (t : Tree) (l : Where) (k : Bool) → IsFormed k t → IsHoused None l.sight t → H l → C (sequences l t) → AllSound (sequences l t)
     trees_in (at s (joined ps)) l k f h m c = pieces_in ps l k f h m c
     trees_in (at s (array ts ks)) l k f h m c = all_in ts l k f.1 h m c
     trees_in (at s (hash ps)) l k f h m c = pairs_in ps l k f h m c
@@ -114,69 +114,69 @@ module _ (rows : List IndexRow) (index : AreIndexRows rows) where
     trees_in (at s (ensure a u)) l k f h m c =
         both_sound (sequences l a) (compiled_part l (in_ensure l u) kinds.Ensure u ∷ sequences (in_ensure l u) u) c (λ d. trees_in a l k f.0 h.0 m d) (λ d. ensure_in u l f.1 h.1 m d)
     trees_in (at s (method x t y)) l k f h m c =
-        let home = method_homed l x t c.0 in (sound_body rows index l (in_body l t) kinds.Method x t c.0 refl (λ e. absurd cc) f h home c.1, body_in t (in_body l t) f h home c.1)
+        let home = method_homed l x t c.0 in (sound_body rows index l (in_body l t) kinds.Method x t c.0 refl (λ e. absurd cc) f h.0 home c.1, body_in t (in_body l t) f h.0 home c.1)
     trees_in (at s (class o x t)) l k f h m c =
         both_sound (other_sequences l o) (compiled_body l (in_body l t) kinds.Class x t ∷ sequences (in_body l t) t) c (λ d. other_in o l k f.0 h.0 m d)
-        (λ d. let home = class_homed l x t d.0 in (sound_body rows index l (in_body l t) kinds.Class x t d.0 refl (λ e. absurd cc) f.1.0 h.1 home d.1, body_in t (in_body l t) f.1.0 h.1 home d.1))
+        (λ d. let home = class_homed l x t d.0 in (sound_body rows index l (in_body l t) kinds.Class x t d.0 refl (λ e. absurd cc) f.1.0 h.1.0 home d.1, body_in t (in_body l t) f.1.0 h.1.0 home d.1))
     trees_in (at s (module_named x t)) l k f h m c =
-        let home = class_homed l x t c.0 in (sound_body rows index l (in_body l t) kinds.Class x t c.0 refl (λ e. absurd cc) f.0 h home c.1, body_in t (in_body l t) f.0 h home c.1)
+        let home = class_homed l x t c.0 in (sound_body rows index l (in_body l t) kinds.Class x t c.0 refl (λ e. absurd cc) f.0 h.0 home c.1, body_in t (in_body l t) f.0 h.0 home c.1)
     trees_in (at s (rescue_sequence cs)) l k f h m c = absurd f
     trees_in (at s (ensure_sequence t)) l k f h m c = absurd f
     trees_in (at s (body ps t)) l k f h m c = absurd f
     trees_in (at s f) l k g h m c = tt
 
-    block_in : (t : Other) (l : Where) → BlockFormed t → BlockHoused l.sight t → H l → C (block_sequences l t) → AllSound (block_sequences l t)
+    block_in : (t : Other) (l : Where) → BlockFormed t → BlockHoused None l.sight t → H l → C (block_sequences l t) → AllSound (block_sequences l t)
     block_in without l f h m c = tt
     block_in (with t) l f h m c =
-        let home = block_homed l t c.0 m in (sound_body rows index l (in_block l t) kinds.Block [] t c.0 refl (λ e. absurd cc) f h home c.1, body_in t (in_block l t) f h home c.1)
+        let home = block_homed l t c.0 m in (sound_body rows index l (in_block l t) kinds.Block [] t c.0 refl (λ e. absurd cc) f h.0 home c.1, body_in t (in_block l t) f h.0 home c.1)
 
-    rescue_in : (u : Tree) (l : Where) → IsRescuePart u → IsHoused l.sight u → H l → C (compiled_part l (in_rescue l u) kinds.Rescue u ∷ sequences (in_rescue l u) u) → AllSound (compiled_part l (in_rescue l u) kinds.Rescue u ∷ sequences (in_rescue l u) u)
+    rescue_in : (u : Tree) (l : Where) → IsRescuePart u → IsHoused None l.sight u → H l → C (compiled_part l (in_rescue l u) kinds.Rescue u ∷ sequences (in_rescue l u) u) → AllSound (compiled_part l (in_rescue l u) kinds.Rescue u ∷ sequences (in_rescue l u) u)
     rescue_in (at s (rescue_sequence cs)) l f h m c =
         let home = rescue_homed l s (rescue_sequence cs) c.0 m in
         (sound_rescue rows index l (in_rescue l (at s (rescue_sequence cs))) (at s (rescue_sequence cs)) c.0 f h home c.1, clauses_in cs (in_rescue l (at s (rescue_sequence cs))) true f h home c.1)
     rescue_in (at s f) l g h m c = absurd g
 
-    ensure_in : (u : Tree) (l : Where) → IsEnsurePart u → IsHoused l.sight u → H l → C (compiled_part l (in_ensure l u) kinds.Ensure u ∷ sequences (in_ensure l u) u) → AllSound (compiled_part l (in_ensure l u) kinds.Ensure u ∷ sequences (in_ensure l u) u)
+    ensure_in : (u : Tree) (l : Where) → IsEnsurePart u → IsHoused None l.sight u → H l → C (compiled_part l (in_ensure l u) kinds.Ensure u ∷ sequences (in_ensure l u) u) → AllSound (compiled_part l (in_ensure l u) kinds.Ensure u ∷ sequences (in_ensure l u) u)
     ensure_in (at s (ensure_sequence t)) l f h m c =
         let home = ensure_homed l s (ensure_sequence t) c.0 m in
         (sound_ensure rows index l (in_ensure l (at s (ensure_sequence t))) (at s (ensure_sequence t)) c.0 f h home c.1, trees_in t (in_ensure l (at s (ensure_sequence t))) false f h home c.1)
     ensure_in (at s f) l g h m c = absurd g
 
     -- those in a body
-    body_in : (t : Tree) (l : Where) → IsBody t → IsHoused l.sight t → H l → C (sequences l t) → AllSound (sequences l t)
+    body_in : (t : Tree) (l : Where) → IsBody t → IsHoused None l.sight t → H l → C (sequences l t) → AllSound (sequences l t)
     body_in (at s (body ps t)) l f h m c = both_sound (params_sequences l ps) (sequences l t) c (λ d. params_in ps l f.1.0 h.0 m d) (λ d. trees_in t l false f.1.1 h.1 m d)
     body_in (at s f) l g h m c = absurd g
 
-    all_in : (ts : Trees) (l : Where) (k : Bool) → TreesFormed k ts → TreesHoused l.sight ts → H l → C (trees_sequences l ts) → AllSound (trees_sequences l ts)
+    all_in : (ts : Trees) (l : Where) (k : Bool) → TreesFormed k ts → TreesHoused None l.sight ts → H l → C (trees_sequences l ts) → AllSound (trees_sequences l ts)
     all_in no_more l k f h m c = tt
     all_in (more t ts) l k f h m c = both_sound (sequences l t) (trees_sequences l ts) c (λ d. trees_in t l k f.0 h.0 m d) (λ d. all_in ts l k f.1 h.1 m d)
 
-    other_in : (o : Other) (l : Where) (k : Bool) → OtherFormed k o → OtherHoused l.sight o → H l → C (other_sequences l o) → AllSound (other_sequences l o)
+    other_in : (o : Other) (l : Where) (k : Bool) → OtherFormed k o → OtherHoused None l.sight o → H l → C (other_sequences l o) → AllSound (other_sequences l o)
     other_in without l k f h m c = tt
     other_in (with t) l k f h m c = trees_in t l k f h m c
 
-    pairs_in : (ps : Pairs) (l : Where) (k : Bool) → PairsFormed k ps → PairsHoused l.sight ps → H l → C (pairs_sequences l ps) → AllSound (pairs_sequences l ps)
+    pairs_in : (ps : Pairs) (l : Where) (k : Bool) → PairsFormed k ps → PairsHoused None l.sight ps → H l → C (pairs_sequences l ps) → AllSound (pairs_sequences l ps)
     pairs_in no_pair l k f h m c = tt
     pairs_in (pair t u ps) l k f h m c =
         both_sound (sequences l t) (sequences l u ++ pairs_sequences l ps) c (λ d. trees_in t l k f.0 h.0 m d) (λ d. both_sound (sequences l u) (pairs_sequences l ps) d (λ e. trees_in u l k f.1.0 h.1.0 m e) (λ e. pairs_in ps l k f.1.1 h.1.1 m e))
 
-    pieces_in : (ps : Pieces) (l : Where) (k : Bool) → PiecesFormed k ps → PiecesHoused l.sight ps → H l → C (pieces_sequences l ps) → AllSound (pieces_sequences l ps)
+    pieces_in : (ps : Pieces) (l : Where) (k : Bool) → PiecesFormed k ps → PiecesHoused None l.sight ps → H l → C (pieces_sequences l ps) → AllSound (pieces_sequences l ps)
     pieces_in no_piece l k f h m c = tt
     pieces_in (plain_piece x ps) l k f h m c = pieces_in ps l k f h m c
     pieces_in (code_piece t ps) l k f h m c = both_sound (sequences l t) (pieces_sequences l ps) c (λ d. trees_in t l k f.0 h.0 m d) (λ d. pieces_in ps l k f.1 h.1 m d)
 
-    whens_in : (ws : Whens) (l : Where) (k : Bool) → WhensFormed k ws → WhensHoused l.sight ws → H l → C (whens_sequences l ws) → AllSound (whens_sequences l ws)
+    whens_in : (ws : Whens) (l : Where) (k : Bool) → WhensFormed k ws → WhensHoused None l.sight ws → H l → C (whens_sequences l ws) → AllSound (whens_sequences l ws)
     whens_in no_when l k f h m c = tt
     whens_in (when ts t ws) l k f h m c =
         both_sound (trees_sequences l ts) (sequences l t ++ whens_sequences l ws) c (λ d. all_in ts l k f.0 h.0 m d) (λ d. both_sound (sequences l t) (whens_sequences l ws) d (λ e. trees_in t l k f.1.0 h.1.0 m e) (λ e. whens_in ws l k f.1.1 h.1.1 m e))
 
-    clauses_in : (cs : Rescues) (l : Where) (k : Bool) → ClausesFormed k cs → ClausesHoused l.sight cs → H l → C (clauses_sequences l cs) → AllSound (clauses_sequences l cs)
+    clauses_in : (cs : Rescues) (l : Where) (k : Bool) → ClausesFormed k cs → ClausesHoused None l.sight cs → H l → C (clauses_sequences l cs) → AllSound (clauses_sequences l cs)
     clauses_in no_clause l k f h m c = tt
     clauses_in (clause ts x t cs) l k f h m c =
         both_sound (trees_sequences l ts) (sequences l t ++ clauses_sequences l cs) c (λ d. all_in ts l k f.0 h.0 m d)
         (λ d. both_sound (sequences l t) (clauses_sequences l cs) d (λ e. trees_in t l k f.1.0 h.1.1.0 m e) (λ e. clauses_in cs l k f.1.1 h.1.1.1 m e))
 
-    params_in : (ps : Params) (l : Where) → ParamsFormed false ps → ParamsHoused l.sight ps → H l → C (params_sequences l ps) → AllSound (params_sequences l ps)
+    params_in : (ps : Params) (l : Where) → ParamsFormed false ps → ParamsHoused None l.sight ps → H l → C (params_sequences l ps) → AllSound (params_sequences l ps)
     params_in no_param l f h m c = tt
     params_in (required x ps) l f h m c = params_in ps l f h.1 m c
     params_in (optional x t ps) l f h m c = both_sound (sequences l t) (params_sequences l ps) c (λ d. trees_in t l false f.0 h.1.0 m d) (λ d. params_in ps l f.1 h.1.1 m d)

@@ -17,7 +17,7 @@ use Rattle.ruby_meaning.specs.ClassBodies.{class_frame}
 use Rattle.ruby_meaning.specs.Parts.{in_loop_of, in_sequence, handling}
 use Rattle.ruby_meaning.specs.ClassGraph.{StoreLeads}
 use Rattle.ruby_meaning.specs.Laws.{EnvironmentsStay}
-use Rattle.ruby_meaning.specs.Levels.{Sight, file_sight, body_sight, names_seen, block_sight, IsHoused}
+use Rattle.ruby_meaning.specs.Levels.{Sight, file_sight, body_sight, names_seen, block_sight, Telling, Told, IsHoused}
 use Rattle.ruby_meaning.specs.InSight.{HaveNames, InSight}
 use Rattle.reference_laws.specs.Placed.{home_of, IsPlaced}
 use Rattle.ruby_meaning.specs.Stored.{IsClass, AreClasses, CodeStored, class_of_place, StoredIn, FrameFits}
@@ -59,8 +59,8 @@ module _ (frame : Frame) (line : ℕ) (code : Code) (self : Value) (n : ℕ) (r 
     block = refl;
   }
 
-  pub method_sees : (w : World) → CodeHoused code → HaveNames (length w.environments) (code.locals ∷ []) w.environments (Some n) → InSight (body_sight code.body) (method_frame frame line code self n r given k) w
-  method_sees w h names = record { body = refl; seen = h.seen; scopes = subst (λ xs. HaveNames (length w.environments) (xs ∷ []) w.environments (Some n)) h.locals names }
+  pub method_sees : (told : Telling) (w : World) → CodeHoused told code → HaveNames (length w.environments) (code.locals ∷ []) w.environments (Some n) → InSight (body_sight code.body) (method_frame frame line code self n r given k) w
+  method_sees told w h names = record { body = refl; seen = h.seen; scopes = subst (λ xs. HaveNames (length w.environments) (xs ∷ []) w.environments (Some n)) h.locals names }
 
 -- The frame of a block.
 
@@ -76,8 +76,8 @@ module _ (frame : Frame) (line : ℕ) (d : Closure) (i n : ℕ) where
     block = refl;
   }
 
-  pub block_sees : (s : Sight) (w : World) → MadeIn s w.environments d → HaveNames (length w.environments) (d.code.locals ∷ s.scopes) w.environments (Some n) → InSight (block_sight s d.code.body) (block_frame frame line d i n) w
-  block_sees s w h names = record { body = refl; seen = h.seen; scopes = subst (λ xs. HaveNames (length w.environments) (xs ∷ s.scopes) w.environments (Some n)) h.locals names }
+  pub block_sees : (told : Telling) (s : Sight) (w : World) → MadeIn told s w.environments d → HaveNames (length w.environments) (d.code.locals ∷ s.scopes) w.environments (Some n) → InSight (block_sight s d.code.body) (block_frame frame line d i n) w
+  block_sees told s w h names = record { body = refl; seen = h.seen; scopes = subst (λ xs. HaveNames (length w.environments) (xs ∷ s.scopes) w.environments (Some n)) h.locals names }
 
 -- The frame of a class body.
 
@@ -118,8 +118,8 @@ module _ (path : Bytes) (load : Option ℕ) (t : Tree) (n : ℕ) (outside : Opti
 pub code_stands : (frame : Frame) (t : Tree) (s : Objects) → IsPlaced (at_home (home_of t)) t → AreClasses s frame.code.classes → CodeStored s (code_of frame t)
 code_stands frame t s placed classes = record { placed = placed; classes = classes }
 
-pub code_housed : (frame : Frame) (t : Tree) → IsHoused (body_sight t) t → CodeHoused (code_of frame t)
-code_housed frame t h = record { seen = refl; locals = refl; housed = h }
+pub code_housed : (told : Telling) (frame : Frame) (t : Tree) → IsHoused (told frame.code.source) (body_sight t) t → Told (told frame.code.source) (body_sight t) t → CodeHoused told (code_of frame t)
+code_housed told frame t h found = record { seen = refl; locals = refl; housed = h; told_body = found }
 
 pub block_stands : (c : Around) (frame : Frame) (t : Tree) (s : Objects) → IsPlaced (in_block c) t → FrameFits c frame s → StoredIn c s (closure_here frame t)
 block_stands c frame t s placed h = record { placed = placed; home = h.home; running = h.running; classes = h.classes }
@@ -127,12 +127,13 @@ block_stands c frame t s placed h = record { placed = placed; home = h.home; run
 names_at_sight : (s : Sight) (frame : Frame) (t : Tree) (w : World) → InSight s frame w → names_at frame t ≡ names_seen s t
 names_at_sight s frame t w h = ap (λ xs. seen_by xs frame.code.body (place_of t)) h.seen ∙ ap (λ b. seen_by s.seen b (place_of t)) h.body
 
-pub block_made : (s : Sight) (frame : Frame) (t : Tree) (w : World) → IsHoused (block_sight s t) t → InSight s frame w → MadeIn s w.environments (closure_here frame t)
-block_made s frame t w housed h = record {
+pub block_made : (told : Telling) (s : Sight) (frame : Frame) (t : Tree) (w : World) → IsHoused (told frame.code.source) (block_sight s t) t → Told (told frame.code.source) (block_sight s t) t → InSight s frame w → MadeIn told s w.environments (closure_here frame t)
+block_made told s frame t w housed found h = record {
   seen = names_at_sight s frame t w h;
   locals = ap (λ xs. locals_of xs t) (names_at_sight s frame t w h);
   scopes = h.scopes;
   housed = housed;
+  told_body = found;
 }
 
 -- Frames of parts.

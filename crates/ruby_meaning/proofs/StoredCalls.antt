@@ -30,53 +30,53 @@ use Rattle.ruby_meaning.proofs.Leading.{stay_push}
 use Rattle.ruby_meaning.proofs.LocalNames.{names_begin}
 use Rattle.ruby_meaning.proofs.Scopes.{names_stay, names_open}
 use Rattle.ruby_meaning.proofs.NativeStores.{Fine, native_keeps}
-use Rattle.ruby_meaning.proofs.StoredStores.{GoodCode, good_code_on, GoodClosure, closure_on, made_on, StoreKeeps, keeps_variables, natives_keep}
+use Rattle.ruby_meaning.proofs.StoredStores.{Asked, GoodCode, good_code_on, GoodClosure, closure_on, made_on, StoreKeeps, keeps_variables, natives_keep}
 use Rattle.ruby_meaning.proofs.StoredWorlds.{Good, Onward, onward_same, Moves, moves_objects, moves_rooms, moves_same}
 use Rattle.ruby_meaning.proofs.StoredSteps.{Known, with_class, GoodOut, Keeps, out_on, keep_done, keep_reading, keep_read, keep_changing, keep_choose, keep_pay, keep_charge, keep_make, keep_raise_new, keep_deeper, returned_out, gone_on_out}
 use Rattle.ruby_meaning.proofs.MadeFrames.{fits_on, sight_on, method_fits, method_sees, block_fits, block_sees}
 
 -- What is known of a frame: it fits, and where housing is asked it is in sight of this.
-pub record GoodFrame (asked : Type 0) (c : Around) (s : asked → Sight) (frame : Frame) (w : World) : Type 0 where
+pub record GoodFrame (asked : Asked) (c : Around) (s : asked.is → Sight) (frame : Frame) (w : World) : Type 0 where
   pub fits : FrameFits c frame w.objects
-  pub sees : (g : asked) → InSight (s g) frame w
+  pub sees : (g : asked.is) → InSight (s g) frame w
 
-pub frame_on : (asked : Type 0) (c : Around) (s : asked → Sight) (frame : Frame) (w z : World) → Onward asked w z → GoodFrame asked c s frame w → GoodFrame asked c s frame z
+pub frame_on : (asked : Asked) (c : Around) (s : asked.is → Sight) (frame : Frame) (w z : World) → Onward asked w z → GoodFrame asked c s frame w → GoodFrame asked c s frame z
 frame_on asked c s frame w z l h = record { fits = fits_on c frame w.objects z.objects l.store h.fits; sees = λ g. sight_on (s g) frame w z (l.rooms g) (h.sees g) }
 
-abbrev pub in_frame : (asked : Type 0) → Around → (asked → Sight) → Frame → Known
+abbrev pub in_frame : (asked : Asked) → Around → (asked.is → Sight) → Frame → Known
 in_frame asked c s frame = record { asked = asked; holds = GoodFrame asked c s frame; stays = frame_on asked c s frame }
 
 -- A block that was made there.
-pub record GoodIn (asked : Type 0) (c : Around) (s : asked → Sight) (d : Closure) (w : World) : Type 0 where
+pub record GoodIn (asked : Asked) (c : Around) (s : asked.is → Sight) (d : Closure) (w : World) : Type 0 where
   pub stored : StoredIn c w.objects d
-  pub made : (g : asked) → MadeIn (s g) w.environments d
+  pub made : (g : asked.is) → MadeIn asked.told (s g) w.environments d
 
-pub block_on : (asked : Type 0) (c : Around) (s : asked → Sight) (d : Closure) (w z : World) → Onward asked w z → GoodIn asked c s d w → GoodIn asked c s d z
-block_on asked c s d w z l h = record { stored = closure_on c w.objects z.objects l.store d h.stored; made = λ g. made_on (s g) w.environments z.environments (l.rooms g) d (h.made g) }
+pub block_on : (asked : Asked) (c : Around) (s : asked.is → Sight) (d : Closure) (w z : World) → Onward asked w z → GoodIn asked c s d w → GoodIn asked c s d z
+block_on asked c s d w z l h = record { stored = closure_on c w.objects z.objects l.store d h.stored; made = λ g. made_on asked.told (s g) w.environments z.environments (l.rooms g) d (h.made g) }
 
 -- This code stands too.
 abbrev pub with_code : Known → Code → Known
 with_code k code = record { asked = k.asked; holds = λ w. k.holds w × GoodCode k.asked w.objects code; stays = λ w z l h. (k.stays w z l h.0, good_code_on k.asked w.objects z.objects l.store code h.1) }
 
 -- This block was made there too.
-abbrev pub with_block_of : (k : Known) → Around → (k.asked → Sight) → Closure → Known
+abbrev pub with_block_of : (k : Known) → Around → (k.asked.is → Sight) → Closure → Known
 with_block_of k c s d = record { asked = k.asked; holds = λ w. k.holds w × GoodIn k.asked c s d w; stays = λ w z l h. (k.stays w z l h.0, block_on k.asked c s d w z l h.1) }
 
 -- The environment of this number has these names before those outward.
-abbrev pub with_room : (k : Known) → ℕ → List Bytes → (k.asked → Scopes) → Known
+abbrev pub with_room : (k : Known) → ℕ → List Bytes → (k.asked.is → Scopes) → Known
 with_room k n names outer = record {
   asked = k.asked;
-  holds = λ w. k.holds w × ((g : k.asked) → HaveNames (length w.environments) (names ∷ outer g) w.environments (Some n));
+  holds = λ w. k.holds w × ((g : k.asked.is) → HaveNames (length w.environments) (names ∷ outer g) w.environments (Some n));
   stays = λ w z l h. (k.stays w z l h.0, λ g. names_stay (names ∷ outer g) w.environments z.environments (Some n) (l.rooms g) (h.1 g));
 }
 
 -- What a body does, where it is placed and housed and its frame is in place.
-abbrev pub Bodies : Type 0 → (Tree → Frame → Run) → Type 0
-Bodies asked b = (c : Around) (s : asked → Sight) (t : Tree) (inner : Frame) → IsPlaced c t → ((g : asked) → IsHoused (s g) t) → Keeps (in_frame asked c s inner) c (b t inner)
+abbrev pub Bodies : Asked → (Tree → Frame → Run) → Type 0
+Bodies asked b = (c : Around) (s : asked.is → Sight) (t : Tree) (inner : Frame) → IsPlaced c t → ((g : asked.is) → IsHoused (asked.told inner.code.source) (s g) t) → Keeps (in_frame asked c s inner) c (b t inner)
 
 -- Entries and environments.
 
-module _ (asked : Type 0) where
+module _ (asked : Asked) where
   moves_entry : (t : Bool) (s : Step) (w : World) → Good asked w → Moves asked w (cond t w (with_step s w))
   moves_entry true s w h = moves_same asked w w refl refl refl h
   moves_entry false s w h = moves_same asked w (with_step s w) refl refl refl h
@@ -96,14 +96,14 @@ module _ (k : Known) (c : Around) where
   keep_entering source place go h = keep_changing k c (enter source place) go (λ w p s. moves_enter k.asked source place w s) h
 
   -- An environment is opened that has these names, within one that has those outward.
-  pub keep_opening : (parent : Option ℕ) (locals : List (Bytes × Value)) (names : List Bytes) (outer : k.asked → Scopes) (go : ℕ → Run) →
-      ((w : World) → k.holds w → k.asked → names_in locals ≡ names) → ((w : World) → k.holds w → (g : k.asked) → HaveNames (length w.environments) (outer g) w.environments parent) →
+  pub keep_opening : (parent : Option ℕ) (locals : List (Bytes × Value)) (names : List Bytes) (outer : k.asked.is → Scopes) (go : ℕ → Run) →
+      ((w : World) → k.holds w → k.asked.is → names_in locals ≡ names) → ((w : World) → k.holds w → (g : k.asked.is) → HaveNames (length w.environments) (outer g) w.environments parent) →
       ((n : ℕ) → Keeps (with_room k n names outer) c (go n)) → Keeps k c (reading next_environment (λ n. changing (with_environment parent locals) (go n)))
   keep_opening parent locals names outer go named around h = keep_read k c next_environment (λ n. changing (with_environment parent locals) (go n)) (λ w p s.
       let z : World = with_environment parent locals w in
       let e : Environment = record { parent = parent; locals = locals } in
       let x : Moves k.asked w z = moves_rooms k.asked w z refl (λ g. stay_push w.environments e) refl s in
-      let room : (g : k.asked) → HaveNames (length z.environments) (names ∷ outer g) z.environments (Some (next_environment w)) =
+      let room : (g : k.asked.is) → HaveNames (length z.environments) (names ∷ outer g) z.environments (Some (next_environment w)) =
       (λ g. subst (λ xs. HaveNames (length z.environments) (xs ∷ outer g) z.environments (Some (next_environment w))) (named w p g) (names_open (outer g) parent locals w (around w p g))) in
       out_on k.asked c w z (go (next_environment w) z) x.leads ((h (next_environment w)).by z (k.stays w z x.leads p, room) x.good))
 
@@ -126,8 +126,8 @@ module _ (k : Known) (c : Around) where
   keep_block_param true g go h = keep_proc g go h
 
   -- The locals of a body that holds its own.
-  keep_locals : (parent : Option ℕ) (code : Code) (vs : List Value) (g : Given) (outer : k.asked → Scopes) (go : ℕ → Run) →
-      ((w : World) → k.holds w → k.asked → (seen : List Bytes) × (code.locals ≡ locals_of seen code.body)) → ((w : World) → k.holds w → (g : k.asked) → HaveNames (length w.environments) (outer g) w.environments parent) →
+  keep_locals : (parent : Option ℕ) (code : Code) (vs : List Value) (g : Given) (outer : k.asked.is → Scopes) (go : ℕ → Run) →
+      ((w : World) → k.holds w → k.asked.is → (seen : List Bytes) × (code.locals ≡ locals_of seen code.body)) → ((w : World) → k.holds w → (g : k.asked.is) → HaveNames (length w.environments) (outer g) w.environments parent) →
       ((n : ℕ) → Keeps (with_room k n code.locals outer) c (go n)) → Keeps k c (with_locals parent code vs g go)
   keep_locals parent code vs g outer go own around h =
       let n : Count = count_of_params (params_of code.body) in
@@ -165,11 +165,11 @@ module _ (k : Known) (c : Around) where
   answered_out frame line (raises n message) w l p s = (keep_raise_new k c frame line n message).by w p s
 
 -- what a native's answer does to the store
-abbrev pub AnswerFine : Type 0 → Objects → NativeAnswer → Type 0
+abbrev pub AnswerFine : Asked → Objects → NativeAnswer → Type 0
 AnswerFine asked store (itself a) = Fine (StoreKeeps asked) (natives_keep asked) store a
 AnswerFine asked store (by_control d) = ⊤
 
-module _ (asked : Type 0) where
+module _ (asked : Asked) where
   count_fine : (t : Bool) (store : Objects) (a : Answer) (n : ℕ) (message : Bytes) → Fine (StoreKeeps asked) (natives_keep asked) store a → Fine (StoreKeeps asked) (natives_keep asked) store (cond t a (raises n message))
   count_fine true store a n message h = h
   count_fine false store a n message h = tt
@@ -252,7 +252,7 @@ module _ (b : Tree → Frame → Run) (k : Known) (h : Bodies k.asked b) (c : Ar
         let inner : Frame = method_frame frame line code self n r g (optional_given code vs) in
         returned_out k.asked c d n w (b code.body inner w) refl refl
         ((h d (λ a. body_sight code.body) code.body inner is.stored.placed (λ a. (is.housed a).housed)).by w
-        (record { fits = method_fits frame line code self n r g (optional_given code vs) w.objects is.stored p.0.1; sees = λ a. method_sees frame line code self n r g (optional_given code vs) w (is.housed a) (p.1 a) }) s);
+        (record { fits = method_fits frame line code self n r g (optional_given code vs) w.objects is.stored p.0.1; sees = λ a. method_sees frame line code self n r g (optional_given code vs) k.asked.told w (is.housed a) (p.1 a) }) s);
   }
 
   pub keep_method : (frame : Frame) (line : ℕ) (code : Code) (self : Value) (x : Bytes) (place : Place) (vs : List Value) (g : Given) → Keeps (with_class (with_code k code) (class_of_place place)) c (run_method b frame line code self x place vs g)
@@ -264,7 +264,7 @@ module _ (b : Tree → Frame → Run) (k : Known) (h : Bodies k.asked b) (c : Ar
       (keep_locals j c None code vs g (λ a. []) _ (λ w p a. ([], (p.0.1.housed a).locals)) (λ w p a. tt) (keep_in_method frame line code self x place vs g)))))
 
   -- a block that was made there
-  module _ (around : Around) (sight : k.asked → Sight) where
+  module _ (around : Around) (sight : k.asked.is → Sight) where
     keep_in_block : (frame : Frame) (line : ℕ) (d : Closure) (i n : ℕ) → Keeps (with_room (with_block_of k around sight d) n d.code.locals (λ a. (sight a).scopes)) c (in_block_frame b frame line d i n)
     keep_in_block frame line d i n = record {
       by = λ w p s.
@@ -272,7 +272,7 @@ module _ (b : Tree → Frame → Run) (k : Known) (h : Bodies k.asked b) (c : Ar
           let inner : Frame = block_frame frame line d i n in
           gone_on_out k.asked c (in_block around) w (b d.code.body inner w) refl
           ((h (in_block around) (λ a. block_sight (sight a) d.code.body) d.code.body inner is.stored.placed (λ a. (is.made a).housed)).by w
-          (record { fits = block_fits frame line d i n around w.objects is.stored; sees = λ a. block_sees frame line d i n (sight a) w (is.made a) (p.1 a) }) s);
+          (record { fits = block_fits frame line d i n around w.objects is.stored; sees = λ a. block_sees frame line d i n k.asked.told (sight a) w (is.made a) (p.1 a) }) s);
     }
 
     keep_closure : (frame : Frame) (line i : ℕ) (vs : List Value) (d : Closure) → Keeps (with_block_of k around sight d) c (run_closure b frame line i vs (Some d))

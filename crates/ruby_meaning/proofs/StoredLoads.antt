@@ -30,16 +30,16 @@ use Rattle.ruby_meaning.specs.Invoke.{first_of, second_of, with_text_found, with
 use Rattle.reference_laws.specs.Placed.{IsPlaced}
 use Rattle.ruby_meaning.specs.Levels.{file_sight, IsHoused}
 use Rattle.ruby_meaning.specs.Stored.{IsClass, BodyIs, class_of_place, ArePlaced}
-use Rattle.ruby_meaning.specs.Housed.{AreHoused}
+use Rattle.ruby_meaning.specs.Housed.{source_of, AreHoused}
 use Rattle.ruby_meaning.proofs.LocalNames.{names_nil}
 use Rattle.ruby_meaning.proofs.StoreLeading.{store_with_kind}
-use Rattle.ruby_meaning.proofs.StoredStores.{GoodCode, keeps_kind, keeps_thrown}
+use Rattle.ruby_meaning.proofs.StoredStores.{Asked, GoodCode, keeps_kind, keeps_thrown}
 use Rattle.ruby_meaning.proofs.StoredWorlds.{Good, Moves, moves_objects, moves_same}
 use Rattle.ruby_meaning.proofs.StoredSteps.{Known, GoodOut, Keeps, keep_done, keep_raise, keep_then, keep_reading, keep_read, keep_changing, keep_choose, keep_pay, keep_charge, keep_make, keep_make_string, keep_raise_new, keep_between, keep_deeper, returned_out}
 use Rattle.ruby_meaning.proofs.MadeFrames.{file_fits, file_sees}
 use Rattle.ruby_meaning.proofs.StoredCalls.{Bodies, AnswerFine, native_fine, FoundIs, find_is, moves_with_entry, keep_opening, keep_counted, keep_set_variable, keep_no_method, answered_out, keep_method, keep_block}
 
-module _ (asked : Type 0) where
+module _ (asked : Asked) where
   moves_written : (t : Bool) (f : Bytes) (w : World) → Good asked w → Moves asked w (written_out t f w)
   moves_written true f w s = moves_same asked w (written_out true f w) refl refl refl s
   moves_written false f w s = moves_same asked w (written_out false f w) refl refl refl s
@@ -138,13 +138,13 @@ module _ (k : Known) (c : Around) where
   keep_throw_if true frame line v = keep_changing k c (thrown (stand frame line) v) _ (λ w p s. moves_thrown k.asked (stand frame line) v w s) (keep_raise k c v)
   keep_throw_if false frame line v = keep_raise_new k c frame line type_error (codes "exception class/object expected")
 
-  module _ (files : Files) (are : ArePlaced files) (held : k.asked → AreHoused files) (b : Tree → Frame → Run) (h : Bodies k.asked b) where
+  module _ (files : Files) (are : ArePlaced files) (held : k.asked.is → AreHoused k.asked.told files) (b : Tree → Frame → Run) (h : Bodies k.asked b) where
     keep_load_data : (frame : Frame) (line : ℕ) (kind : DataKind) (x : Bytes) (o : Option Bytes) → Keeps k c (load_data files frame line kind x o)
     keep_load_data frame line kind x None = keep_raise_new k c frame line runtime_error (no_such_file x)
     keep_load_data frame line kind x (Some path) = keep_pay k c _ (keep_step (loaded (data_file kind) path) _ (keep_data_loaded frame line path (files.datum kind path)))
 
     -- a file's body
-    pub keep_code : (frame : Frame) (line : ℕ) (path : Bytes) (load : Option ℕ) (t : Tree) → IsPlaced (at_home file) t → (k.asked → IsHoused (file_sight t) t) → Keeps k c (run_code files b frame line (file_code path load t))
+    pub keep_code : (frame : Frame) (line : ℕ) (path : Bytes) (load : Option ℕ) (t : Tree) → IsPlaced (at_home file) t → (k.asked.is → IsHoused (k.asked.told (source_of path load t)) (file_sight t) t) → Keeps k c (run_code files b frame line (file_code path load t))
     keep_code frame line path load t placed housed =
         let code : Code = file_code path load t in
         keep_charge k c (environment_cells (length code.locals)) _ (keep_opening k c None (all_nil code.locals) code.locals (λ a. []) _ (λ w p a. names_nil code.locals) (λ w p a. tt) (λ n. record {
@@ -159,7 +159,7 @@ module _ (k : Known) (c : Around) where
     keep_ruby_loaded frame line path load no_ruby e = keep_raise_new k c frame line load_error (cannot_load path)
     keep_ruby_loaded frame line path load (ruby_fault l) e = keep_raise_new k c frame line syntax_error (fault_at path l (codes "syntax error"))
     keep_ruby_loaded frame line path load (ruby_tree t) e =
-        keep_changing k c (with_entry load 0) _ (λ w p s. moves_with_entry k.asked load 0 w s) (keep_code frame line path (Some load) t (are path t e) (λ a. held a path t e))
+        keep_changing k c (with_entry load 0) _ (λ w p s. moves_with_entry k.asked load 0 w s) (keep_code frame line path (Some load) t (are path t e) (λ a. held a path load t e))
 
     pub keep_load_ruby : (frame : Frame) (line : ℕ) (path : Bytes) → Keeps k c (load_ruby files b frame line path)
     keep_load_ruby frame line path =

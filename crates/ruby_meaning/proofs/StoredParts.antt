@@ -18,13 +18,13 @@ use Rattle.ruby_meaning.specs.Definitions.{holder, set_local_in, set_local, fixe
 use Rattle.ruby_meaning.specs.ClassBodies.{is_class_kind, is_module_kind, class_alone, module_alone, same_class, class_frame, open_class, make_class, not_a, open_found, class_or_new, module_or_new, if_same_superclass, below_base, with_base, class_below, class_named, module_of_name}
 use Rattle.ruby_meaning.specs.Parts.{make_array, make_hash, no_range, range_to, make_range, piece_found, piece_of, joined_text, make_joined, of_values, unexpected_return, leave_from, leave_home, no_break, leave_block, leave_loop, given_of, wrong_block, given_found, given_value, match_found, match_class}
 use Rattle.ruby_meaning.specs.ClassGraph.{number_if, StoreLeads}
-use Rattle.ruby_meaning.specs.Levels.{body_sight, IsHoused}
+use Rattle.ruby_meaning.specs.Levels.{body_sight, Told, IsHoused}
 use Rattle.reference_laws.specs.Placed.{home_of, IsPlaced}
 use Rattle.ruby_meaning.specs.Stored.{IsClass, AreClasses}
 use Rattle.ruby_meaning.proofs.Changes.{keeps_set_local}
 use Rattle.ruby_meaning.proofs.LocalNames.{names_nil}
 use Rattle.ruby_meaning.proofs.StoreLeading.{store_behind, stays_class}
-use Rattle.ruby_meaning.proofs.StoredStores.{GoodCode, keeps_behind, keeps_method, keeps_class_method, keeps_constants}
+use Rattle.ruby_meaning.proofs.StoredStores.{Asked, GoodCode, keeps_behind, keeps_method, keeps_class_method, keeps_constants}
 use Rattle.ruby_meaning.proofs.StoredWorlds.{Good, Moves, moves_objects, moves_rooms, moves_same}
 use Rattle.ruby_meaning.proofs.StoredSteps.{Known, with_class, GoodOut, Keeps, out_on, keep_by, keep_stay, keep_done, keep_then, keep_reading, keep_read, keep_changing, keep_choose, keep_charge, keep_make, keep_make_string, keep_raise_new, keep_deeper, class_out}
 use Rattle.ruby_meaning.proofs.MadeFrames.{class_fits, class_sees, code_stands, code_housed}
@@ -43,7 +43,7 @@ closures_same : (x : Bytes) (v : Value) (o : Option ℕ) (w : World) → (set_lo
 closures_same x v None w = refl
 closures_same x v (Some n) w = refl
 
-module _ (asked : Type 0) where
+module _ (asked : Asked) where
   pub moves_local : (frame : Frame) (x : Bytes) (v : Value) (w : World) → Good asked w → Moves asked w (set_local frame x v w)
   moves_local frame x v w s = moves_rooms asked w (set_local frame x v w) (objects_same x v (holder frame x w) w) (λ g. ((keeps_set_local frame frame x v).leads w).stay) (closures_same x v (holder frame x w) w) s
 
@@ -162,9 +162,9 @@ module _ (k : Known) (c : Around) (frame : Frame) (has : (w : World) → k.holds
 
   -- Methods.
 
-  module _ (t : Tree) (placed : IsPlaced (at_home (home_of t)) t) (housed : k.asked → IsHoused (body_sight t) t) where
+  module _ (t : Tree) (placed : IsPlaced (at_home (home_of t)) t) (housed : k.asked.is → IsHoused (k.asked.told frame.code.source) (body_sight t) t × Told (k.asked.told frame.code.source) (body_sight t) t) where
     good_code : (w : World) → k.holds w → GoodCode k.asked w.objects (code_of frame t)
-    good_code w p = record { stored = code_stands frame t w.objects placed (has w p); housed = λ a. code_housed frame t (housed a) }
+    good_code w p = record { stored = code_stands frame t w.objects placed (has w p); housed = λ a. code_housed k.asked.told frame t (housed a).0 (housed a).1 }
 
     keep_define_on : (line : ℕ) (x : Bytes) (n : ℕ) → Keeps (with_class k n) c (define_on frame line x t (Some n))
     keep_define_on line x n =
@@ -184,7 +184,7 @@ module _ (k : Known) (c : Around) (frame : Frame) (has : (w : World) → k.holds
 
   -- Class bodies.
 
-  pub keep_open_class : (line : ℕ) (t : Tree) (go : Frame → Run) → ((inner : Frame) → Keeps (in_frame k.asked (at_home placement.in_class) (λ a. body_sight t) inner) (at_home placement.in_class) (go inner)) → (n : ℕ) → Keeps (with_class k n) c (open_class frame line t go n)
+  pub keep_open_class : (line : ℕ) (t : Tree) (go : Frame → Run) → ((n i : ℕ) → Keeps (in_frame k.asked (at_home placement.in_class) (λ a. body_sight t) (class_frame frame line t n i)) (at_home placement.in_class) (go (class_frame frame line t n i))) → (n : ℕ) → Keeps (with_class k n) c (open_class frame line t go n)
   keep_open_class line t go h n =
       let j : Known = with_class k n in
       keep_deeper j c frame line _ (keep_entering j c frame.code.source (place_of t) _ (keep_charge j c (environment_cells (length (locals_of [] t))) _
@@ -192,7 +192,7 @@ module _ (k : Known) (c : Around) (frame : Frame) (has : (w : World) → k.holds
         by = λ w p s.
             let inner : Frame = class_frame frame line t n i in
             class_out k.asked c (at_home placement.in_class) w (go inner w) refl refl
-            ((h inner).by w (record { fits = class_fits frame line t n i w.objects p.0.1 (has w p.0.0); sees = λ a. class_sees frame line t n i w (p.1 a) }) s);
+            ((h n i).by w (record { fits = class_fits frame line t n i w.objects p.0.1 (has w p.0.0); sees = λ a. class_sees frame line t n i w (p.1 a) }) s);
       }))))
 
   -- Makes a class below one that there is, or none.

@@ -16,11 +16,12 @@ use Rattle.ruby_meaning.specs.Evaluation.{eval}
 use Rattle.ruby_meaning.specs.RunLaws.{EndsOutside}
 use Rattle.ruby_meaning.specs.PlainRun.{StartClass, numbers_from, is_rows_of, is_class_rows_of, row_if, row_here, class_row_here, start_classes, start_objects, start_store, start_world, start_cells, top_frame, with_turns, Program, program_run}
 use Rattle.reference_laws.specs.Placed.{IsPlaced}
-use Rattle.ruby_meaning.specs.Levels.{file_sight, IsHoused}
+use Rattle.ruby_meaning.specs.Levels.{file_sight, Telling, IsHoused}
 use Rattle.ruby_meaning.specs.Stored.{RowsAre, ClassIs, EachCode, CodeStored, IsStored, PlacedOut, ArePlaced, EndsAsProgram}
-use Rattle.ruby_meaning.specs.Housed.{CodeHoused, WorldHoused, AreHoused}
+use Rattle.ruby_meaning.specs.Housed.{CodeHoused, WorldHoused, source_of, AreHoused}
 use Rattle.ruby_meaning.proofs.ClassGraph.{start_graph}
 use Rattle.ruby_meaning.proofs.Ends.{program_ends}
+use Rattle.ruby_meaning.proofs.StoredStores.{Asked, unasked, asked_by}
 use Rattle.ruby_meaning.proofs.StoredWorlds.{good_of, stored_of, housed_of, moves_same}
 use Rattle.ruby_meaning.proofs.StoredSteps.{Known, nothing, GoodOut, Keeps, keep_then, keep_changing, keep_charge}
 use Rattle.ruby_meaning.proofs.StoredLoads.{keep_code, keep_load_ruby}
@@ -92,12 +93,12 @@ start_stored p = record {
   closures = tt;
 }
 
-pub start_housed : (p : Program) → WorldHoused (start_world p)
-start_housed p = record { rows = start_is CodeHoused p; closures = tt }
+pub start_housed : (told : Telling) (p : Program) → WorldHoused told (start_world p)
+start_housed told p = record { rows = start_is (CodeHoused told) p; closures = tt }
 
 -- Programs.
 
-module _ (asked : Type 0) (files : Files) (are : ArePlaced files) (held : asked → AreHoused files) (prelude : Tree) (placed : IsPlaced (at_home file) prelude) (housed : asked → IsHoused (file_sight prelude) prelude) (p : Program) where
+module _ (asked : Asked) (files : Files) (are : ArePlaced files) (held : asked.is → AreHoused asked.told files) (prelude : Tree) (placed : IsPlaced (at_home file) prelude) (housed : asked.is → IsHoused (asked.told (source_of [] None prelude)) (file_sight prelude) prelude) (p : Program) where
   program_keeps : Keeps (nothing asked) (at_home file) (program_run files prelude p)
   program_keeps =
       let k : Known = nothing asked in
@@ -107,14 +108,14 @@ module _ (asked : Type 0) (files : Files) (are : ArePlaced files) (held : asked 
       (keep_load_ruby k (at_home file) files are held (eval files p.turns) (keep_eval asked files are held p.turns) top_frame 0 p.file)))
 
   program_out : GoodOut asked (at_home file) (start_world p) (program_run files prelude p (start_world p))
-  program_out = program_keeps.by (start_world p) tt (good_of asked (start_world p) (start_stored p) (λ g. start_housed p))
+  program_out = program_keeps.by (start_world p) tt (good_of asked (start_world p) (start_stored p) (λ g. start_housed asked.told p))
 
 pub program_stored : (files : Files) → ArePlaced files → (prelude : Tree) → IsPlaced (at_home file) prelude → (p : Program) → IsStored (world_of (program_run files prelude p (start_world p)))
-program_stored files are prelude placed p = stored_of ⊥ (world_of (program_run files prelude p (start_world p))) (program_out ⊥ files are (λ g. absurd g) prelude placed (λ g. absurd g) p).good
+program_stored files are prelude placed p = stored_of unasked (world_of (program_run files prelude p (start_world p))) (program_out unasked files are (λ g. absurd g) prelude placed (λ g. absurd g) p).good
 
-pub program_housed : (files : Files) → ArePlaced files → AreHoused files → (prelude : Tree) → IsPlaced (at_home file) prelude → IsHoused (file_sight prelude) prelude → (p : Program) → WorldHoused (world_of (program_run files prelude p (start_world p)))
-program_housed files are held prelude placed housed p =
-    housed_of (Unit {0}) (world_of (program_run files prelude p (start_world p))) (program_out (Unit {0}) files are (λ g. held) prelude placed (λ g. housed) p).good tt
+pub program_housed : (told : Telling) (files : Files) → ArePlaced files → AreHoused told files → (prelude : Tree) → IsPlaced (at_home file) prelude → IsHoused (told (source_of [] None prelude)) (file_sight prelude) prelude → (p : Program) → WorldHoused told (world_of (program_run files prelude p (start_world p)))
+program_housed told files are held prelude placed housed p =
+    housed_of (asked_by told) (world_of (program_run files prelude p (start_world p))) (program_out (asked_by told) files are (λ g. held) prelude placed (λ g. housed) p).good tt
 
 as_program : (o : Outcome) → EndsOutside o → PlacedOut (at_home file) o → EndsAsProgram o
 as_program (Done v w) e h = tt
@@ -127,4 +128,4 @@ as_program (Spent w) e h = tt
 as_program (Full w) e h = tt
 
 pub program_as : (files : Files) → ArePlaced files → (prelude : Tree) → IsPlaced (at_home file) prelude → (p : Program) → EndsAsProgram (program_run files prelude p (start_world p))
-program_as files are prelude placed p = as_program (program_run files prelude p (start_world p)) (program_ends files prelude p) (program_out ⊥ files are (λ g. absurd g) prelude placed (λ g. absurd g) p).placed
+program_as files are prelude placed p = as_program (program_run files prelude p (start_world p)) (program_ends files prelude p) (program_out unasked files are (λ g. absurd g) prelude placed (λ g. absurd g) p).placed

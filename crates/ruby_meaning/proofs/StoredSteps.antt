@@ -12,17 +12,17 @@ use Rattle.ruby_meaning.specs.Evaluation.{goes_on, loop, loop_from, rescuing}
 use Rattle.ruby_meaning.specs.Stored.{IsClass, PlacedOut}
 use Rattle.ruby_meaning.proofs.Catching.{here_world}
 use Rattle.ruby_meaning.proofs.StoreLeading.{stays_class}
-use Rattle.ruby_meaning.proofs.StoredStores.{keeps_made}
+use Rattle.ruby_meaning.proofs.StoredStores.{Asked, keeps_made}
 use Rattle.ruby_meaning.proofs.StoredWorlds.{Good, Onward, onward_same, onward_on, Moves, moves_objects, moves_same}
 
 -- What is known of the world while a run goes on, and stays known of each to which it goes on. Of housing it is known where that is asked.
 pub record Known : Type 1 where
-  pub asked : Type 0
+  pub asked : Asked
   pub holds : World → Type 0
   pub stays : (w z : World) → Onward asked w z → holds w → holds z
 
 -- nothing is known
-abbrev pub nothing : Type 0 → Known
+abbrev pub nothing : Asked → Known
 nothing asked = record { asked = asked; holds = λ w. Unit {0}; stays = λ w z l h. tt }
 
 -- and this number is a class's
@@ -30,7 +30,7 @@ abbrev pub with_class : Known → ℕ → Known
 with_class k n = record { asked = k.asked; holds = λ w. k.holds w × IsClass w.objects n; stays = λ w z l h. (k.stays w z l h.0, stays_class w.objects z.objects n l.store h.1) }
 
 -- What holds behind a run.
-pub record GoodOut (asked : Type 0) (c : Around) (w : World) (o : Outcome) : Type 0 where
+pub record GoodOut (asked : Asked) (c : Around) (w : World) (o : Outcome) : Type 0 where
   pub leads : Onward asked w (world_of o)
   pub good : Good asked (world_of o)
   pub placed : PlacedOut c o
@@ -39,11 +39,11 @@ pub record GoodOut (asked : Type 0) (c : Around) (w : World) (o : Outcome) : Typ
 pub record Keeps (k : Known) (c : Around) (m : Run) : Type 0 where
   pub by : (w : World) → k.holds w → Good k.asked w → GoodOut k.asked c w (m w)
 
-pub out_on : (asked : Type 0) (c : Around) (w z : World) (o : Outcome) → Onward asked w z → GoodOut asked c z o → GoodOut asked c w o
+pub out_on : (asked : Asked) (c : Around) (w z : World) (o : Outcome) → Onward asked w z → GoodOut asked c z o → GoodOut asked c w o
 out_on asked c w z o l x = record { leads = onward_on asked w z (world_of o) l x.leads; good = x.good; placed = x.placed }
 
 -- the world alone, whatever the outcome's placement
-out_as : (asked : Type 0) (c d : Around) (w : World) (o p : Outcome) → world_of p ≡ world_of o → PlacedOut d p → GoodOut asked c w o → GoodOut asked d w p
+out_as : (asked : Asked) (c d : Around) (w : World) (o p : Outcome) → world_of p ≡ world_of o → PlacedOut d p → GoodOut asked c w o → GoodOut asked d w p
 out_as asked c d w o p same placed x = record { leads = subst (λ z. Onward asked w z) (sym same) x.leads; good = subst (Good asked) (sym same) x.good; placed = placed }
 
 module _ (k : Known) (c : Around) where
@@ -192,7 +192,7 @@ not_both : (b : Bool) → b ≡ true → b ≡ false → ⊥
 not_both true h k = absurd (cc)
 not_both false h k = absurd (cc)
 
-pub returned_out : (asked : Type 0) (c d : Around) (n : ℕ) (w : World) (o : Outcome) → NoNext d → NoRetry d → GoodOut asked d w o → GoodOut asked c w (returned n o)
+pub returned_out : (asked : Asked) (c d : Around) (n : ℕ) (w : World) (o : Outcome) → NoNext d → NoRetry d → GoodOut asked d w o → GoodOut asked c w (returned n o)
 returned_out asked c d n w (Done v z) next retry x = out_as asked d c w (Done v z) (Done v z) refl tt x
 returned_out asked c d n w (Raise v z) next retry x = out_as asked d c w (Raise v z) (Raise v z) refl tt x
 returned_out asked c d n w (Break t v z) next retry x = out_as asked d c w (Break t v z) (Break t v z) refl tt x
@@ -203,7 +203,7 @@ returned_out asked c d n w (Spent z) next retry x = out_as asked d c w (Spent z)
 returned_out asked c d n w (Full z) next retry x = out_as asked d c w (Full z) (Full z) refl tt x
 
 -- the outcome of a class body
-pub class_out : (asked : Type 0) (c d : Around) (w : World) (o : Outcome) → NoNext d → NoRetry d → GoodOut asked d w o → GoodOut asked c w o
+pub class_out : (asked : Asked) (c d : Around) (w : World) (o : Outcome) → NoNext d → NoRetry d → GoodOut asked d w o → GoodOut asked c w o
 class_out asked c d w (Done v z) next retry x = out_as asked d c w (Done v z) (Done v z) refl tt x
 class_out asked c d w (Raise v z) next retry x = out_as asked d c w (Raise v z) (Raise v z) refl tt x
 class_out asked c d w (Break t v z) next retry x = out_as asked d c w (Break t v z) (Break t v z) refl tt x
@@ -213,7 +213,7 @@ class_out asked c d w (Retry z) next retry x = absurd (not_both d.clause x.place
 class_out asked c d w (Spent z) next retry x = out_as asked d c w (Spent z) (Spent z) refl tt x
 class_out asked c d w (Full z) next retry x = out_as asked d c w (Full z) (Full z) refl tt x
 
-pub gone_on_out : (asked : Type 0) (c d : Around) (w : World) (o : Outcome) → NoRetry d → GoodOut asked d w o → GoodOut asked c w (gone_on o)
+pub gone_on_out : (asked : Asked) (c d : Around) (w : World) (o : Outcome) → NoRetry d → GoodOut asked d w o → GoodOut asked c w (gone_on o)
 gone_on_out asked c d w (Done v z) retry x = out_as asked d c w (Done v z) (Done v z) refl tt x
 gone_on_out asked c d w (Raise v z) retry x = out_as asked d c w (Raise v z) (Raise v z) refl tt x
 gone_on_out asked c d w (Break t v z) retry x = out_as asked d c w (Break t v z) (Break t v z) refl tt x
@@ -223,7 +223,7 @@ gone_on_out asked c d w (Retry z) retry x = absurd (not_both d.clause x.placed r
 gone_on_out asked c d w (Spent z) retry x = out_as asked d c w (Spent z) (Spent z) refl tt x
 gone_on_out asked c d w (Full z) retry x = out_as asked d c w (Full z) (Full z) refl tt x
 
-pub broken_out : (asked : Type 0) (c : Around) (n : ℕ) (w : World) (o : Outcome) → GoodOut asked c w o → GoodOut asked c w (broken n o)
+pub broken_out : (asked : Asked) (c : Around) (n : ℕ) (w : World) (o : Outcome) → GoodOut asked c w o → GoodOut asked c w (broken n o)
 broken_out asked c n w (Done v z) x = x
 broken_out asked c n w (Raise v z) x = x
 broken_out asked c n w (Break t v z) x = out_as asked c c w (Break t v z) (if_here (is_call n t) (Done v z) (Break t v z)) (here_world (is_call n t) v (Break t v z) z refl) (here_placed c (is_call n t) v z (Break t v z) tt) x
@@ -234,7 +234,7 @@ broken_out asked c n w (Spent z) x = x
 broken_out asked c n w (Full z) x = x
 
 -- the outcome of a part that stands outside of a clause
-pub part_out : (asked : Type 0) (c : Around) (w : World) (o : Outcome) → GoodOut asked (outside_clause c) w o → GoodOut asked c w o
+pub part_out : (asked : Asked) (c : Around) (w : World) (o : Outcome) → GoodOut asked (outside_clause c) w o → GoodOut asked c w o
 part_out asked c w (Done v z) x = out_as asked (outside_clause c) c w (Done v z) (Done v z) refl tt x
 part_out asked c w (Raise v z) x = out_as asked (outside_clause c) c w (Raise v z) (Raise v z) refl tt x
 part_out asked c w (Break t v z) x = out_as asked (outside_clause c) c w (Break t v z) (Break t v z) refl tt x

@@ -10,7 +10,7 @@ use Rattle.ruby_meaning.specs.World.{Environment, Running, Closure}
 use Rattle.ruby_meaning.specs.Laws.{EnvironmentsStay}
 use Rattle.ruby_meaning.specs.ClassGraph.{StoreLeads}
 use Rattle.ruby_meaning.specs.Stored.{IsClass, AreClasses, BodyIs, RowsAre, ClassIs, EachCode, EachClosure, CodeStored, class_of_place, RunningFits, StoredIn, ClosureStored}
-use Rattle.ruby_meaning.specs.Levels.{Sight}
+use Rattle.ruby_meaning.specs.Levels.{Sight, Telling, untold}
 use Rattle.ruby_meaning.specs.Housed.{CodeHoused, MadeIn, ClosureHoused}
 use Rattle.ruby_meaning.proofs.ClassGraph.{kind_with, kind_behind}
 use Rattle.ruby_meaning.proofs.Scopes.{names_stay}
@@ -23,15 +23,28 @@ pub classes_on : (s t : Objects) → StoreLeads s t → (cs : List ℕ) → AreC
 classes_on s t l [] h = tt
 classes_on s t l (c ∷ cs) h = (stays_class s t c l h.0, classes_on s t l cs h.1)
 
+-- Whether it is asked of housing, and by what telling.
+pub record Asked : Type 1 where
+  pub is : Type 0
+  pub told : Telling
+
+-- it is not
+abbrev pub unasked : Asked
+unasked = record { is = ⊥; told = untold }
+
+-- it is
+abbrev pub asked_by : Telling → Asked
+asked_by told = record { is = Unit {0}; told = told }
+
 -- Code as it stands in a store: placed, and housed where that is asked.
-pub record GoodCode (asked : Type 0) (s : Objects) (code : Code) : Type 0 where
+pub record GoodCode (asked : Asked) (s : Objects) (code : Code) : Type 0 where
   pub stored : CodeStored s code
-  pub housed : asked → CodeHoused code
+  pub housed : asked.is → CodeHoused asked.told code
 
 -- A closure as it stands in a store and among environments.
-pub record GoodClosure (asked : Type 0) (s : Objects) (es : List Environment) (k : Closure) : Type 0 where
+pub record GoodClosure (asked : Asked) (s : Objects) (es : List Environment) (k : Closure) : Type 0 where
   pub stored : ClosureStored s k
-  pub housed : asked → ClosureHoused es k
+  pub housed : asked.is → ClosureHoused asked.told es k
 
 pub running_on : (s t : Objects) → StoreLeads s t → (m : Option Running) → RunningFits s m → RunningFits t m
 running_on s t l None h = tt
@@ -44,11 +57,11 @@ pub closure_on : (around : Around) (s t : Objects) → StoreLeads s t → (k : C
 closure_on around s t l k h = record { placed = h.placed; home = h.home; running = running_on s t l k.method h.running; classes = classes_on s t l k.code.classes h.classes }
 
 -- Among environments that stay a block stays made where it was.
-pub made_on : (around : Sight) (es fs : List Environment) → EnvironmentsStay es fs → (k : Closure) → MadeIn around es k → MadeIn around fs k
-made_on around es fs stay k h = record { seen = h.seen; locals = h.locals; scopes = names_stay around.scopes es fs (Some k.environment) stay h.scopes; housed = h.housed }
+pub made_on : (told : Telling) (around : Sight) (es fs : List Environment) → EnvironmentsStay es fs → (k : Closure) → MadeIn told around es k → MadeIn told around fs k
+made_on told around es fs stay k h = record { seen = h.seen; locals = h.locals; scopes = names_stay around.scopes es fs (Some k.environment) stay h.scopes; housed = h.housed; told_body = h.told_body }
 
 -- The store leads on, and where all code that it has is good, so it is after the change.
-pub record StoreKeeps (asked : Type 0) (s t : Objects) : Type 0 where
+pub record StoreKeeps (asked : Asked) (s t : Objects) : Type 0 where
   pub leads : StoreLeads s t
   pub rows : EachCode (GoodCode asked s) s → EachCode (GoodCode asked t) t
 
@@ -67,7 +80,7 @@ attribute_is so (native n) h = tt
 attribute_is so (reader x) h = tt
 attribute_is so (writer x) h = tt
 
-module _ (asked : Type 0) where
+module _ (asked : Asked) where
   pub good_code_on : (s t : Objects) → StoreLeads s t → (code : Code) → GoodCode asked s code → GoodCode asked t code
   good_code_on s t l code h = record { stored = code_on s t l code h.stored; housed = h.housed }
 
@@ -84,10 +97,10 @@ module _ (asked : Type 0) where
   class_on : (s t : Objects) → StoreLeads s t → (c : Class) → ClassIs (GoodCode asked s) c → ClassIs (GoodCode asked t) c
   class_on s t l c h = (rows_on s t l c.methods h.0, rows_on s t l c.class_methods h.1)
 
-  pub good_closure_on : (s t : Objects) (es fs : List Environment) → StoreLeads s t → (asked → EnvironmentsStay es fs) → (k : Closure) → GoodClosure asked s es k → GoodClosure asked t fs k
-  good_closure_on s t es fs l stay k h = record { stored = (h.stored.0, closure_on h.stored.0 s t l k h.stored.1); housed = λ g. ((h.housed g).0, made_on (h.housed g).0 es fs (stay g) k (h.housed g).1) }
+  pub good_closure_on : (s t : Objects) (es fs : List Environment) → StoreLeads s t → (asked.is → EnvironmentsStay es fs) → (k : Closure) → GoodClosure asked s es k → GoodClosure asked t fs k
+  good_closure_on s t es fs l stay k h = record { stored = (h.stored.0, closure_on h.stored.0 s t l k h.stored.1); housed = λ g. ((h.housed g).0, made_on asked.told (h.housed g).0 es fs (stay g) k (h.housed g).1) }
 
-  pub closures_on : (s t : Objects) (es fs : List Environment) → StoreLeads s t → (asked → EnvironmentsStay es fs) → (all : List Closure) → EachClosure (GoodClosure asked s es) all → EachClosure (GoodClosure asked t fs) all
+  pub closures_on : (s t : Objects) (es fs : List Environment) → StoreLeads s t → (asked.is → EnvironmentsStay es fs) → (all : List Closure) → EachClosure (GoodClosure asked s es) all → EachClosure (GoodClosure asked t fs) all
   closures_on s t es fs l stay [] h = tt
   closures_on s t es fs l stay (k ∷ all) h = (good_closure_on s t es fs l stay k h.0, closures_on s t es fs l stay all h.1)
 

@@ -15,16 +15,17 @@ use Rattle.ruby_meaning.specs.Calls.{spread, variable_of}
 use Rattle.ruby_meaning.specs.Files.{Files}
 use Rattle.ruby_meaning.specs.Invoke.{run_if_found, send_to}
 use Rattle.ruby_meaning.specs.Definitions.{read_local, set_local, read_global, closure_here, with_closure}
+use Rattle.ruby_meaning.specs.ClassBodies.{class_frame}
 use Rattle.ruby_meaning.specs.Parts.{parts_of, super_found, places_behind, in_loop_of, in_sequence, handling}
 use Rattle.ruby_meaning.specs.Evaluation.{unless_nil, is_given_one, set_exception, with_block, send_with, super_with, super_to, set_by_send, run, run_form, run_all, run_trees, run_other, run_last, run_receiver, run_given_value, run_path, run_class, run_pairs, run_pieces, run_whens, run_patterns, run_tests, run_any, run_clauses, run_clause, run_classes, run_defaults, eval, evaluate}
 use Rattle.reference_laws.specs.Placed.{IsPlaced, FormPlaced, TreesPlaced, OtherPlaced, PairsPlaced, PiecesPlaced, WhensPlaced, ClausesPlaced, ParamsPlaced}
-use Rattle.ruby_meaning.specs.Levels.{Sight, body_sight, IsHoused, FormHoused, BlockHoused, TreesHoused, OtherHoused, PairsHoused, PiecesHoused, WhensHoused, ClausesHoused, ParamsHoused}
+use Rattle.ruby_meaning.specs.Levels.{Sight, body_sight, Telling, IsHoused, FormHoused, BlockHoused, TreesHoused, OtherHoused, PairsHoused, PiecesHoused, WhensHoused, ClausesHoused, ParamsHoused}
 use Rattle.ruby_meaning.specs.Stored.{AreClasses, EachClosure, IsStored, FrameFits, ArePlaced, StoredOut, StaysStored}
 use Rattle.ruby_meaning.specs.Housed.{HousedOut, InPlace, StaysHoused, AreHoused}
 use Rattle.ruby_meaning.proofs.Truths.{holds}
 use Rattle.ruby_meaning.proofs.Leading.{all_stay}
 use Rattle.ruby_meaning.proofs.StoreLeading.{store_same}
-use Rattle.ruby_meaning.proofs.StoredStores.{GoodCode, GoodClosure, keeps_same}
+use Rattle.ruby_meaning.proofs.StoredStores.{Asked, unasked, asked_by, GoodCode, GoodClosure, keeps_same}
 use Rattle.ruby_meaning.proofs.StoredWorlds.{Good, good_of, stored_of, housed_of, Moves, good_on, moves_same}
 use Rattle.ruby_meaning.proofs.StoredSteps.{Known, with_class, GoodOut, Keeps, keep_stay, keep_done, keep_raise, keep_then, keep_reading, keep_read, keep_changing, keep_choose, keep_make_string, keep_known, broken_out, part_out, keep_loop_from, keep_rescuing, keep_finished}
 use Rattle.ruby_meaning.proofs.MadeFrames.{block_stands, block_made, calling_fits, handling_fits, sequence_fits, part_fits, loop_fits, calling_sees, handling_sees, sequence_sees, loop_sees}
@@ -37,7 +38,7 @@ closures_push : (so : Closure → Type 0) (all : List Closure) (d : Closure) →
 closures_push so [] d h g = (g, tt)
 closures_push so (x ∷ all) d h g = (h.0, closures_push so all d h.1 g)
 
-module _ (asked : Type 0) where
+module _ (asked : Asked) where
   pub moves_closure : (d : Closure) (w : World) → GoodClosure asked w.objects w.environments d → Good asked w → Moves asked w (with_closure d w)
   moves_closure d w h s = record {
     leads = record { store = store_same w.objects; rooms = λ g. all_stay w.environments };
@@ -48,22 +49,22 @@ module _ (asked : Type 0) where
   moves_exception frame None w s = moves_same asked w w refl refl refl s
   moves_exception frame (Some x) w s = moves_local asked frame x frame.handled w s
 
-  classes_of : (c : Around) (y : asked → Sight) (frame : Frame) (w : World) → GoodFrame asked c y frame w → AreClasses w.objects frame.code.classes
+  classes_of : (c : Around) (y : asked.is → Sight) (frame : Frame) (w : World) → GoodFrame asked c y frame w → AreClasses w.objects frame.code.classes
   classes_of c y frame w h = h.fits.classes
 
-  calling_in : (c : Around) (y : asked → Sight) (frame : Frame) (ns : List ℕ) (w : World) → GoodFrame asked c y frame w → GoodFrame asked c y (record frame { calling = ns }) w
+  calling_in : (c : Around) (y : asked.is → Sight) (frame : Frame) (ns : List ℕ) (w : World) → GoodFrame asked c y frame w → GoodFrame asked c y (record frame { calling = ns }) w
   calling_in c y frame ns w h = record { fits = calling_fits c frame w.objects h.fits ns; sees = λ g. calling_sees (y g) frame w (h.sees g) ns }
 
-  handling_in : (c : Around) (y : asked → Sight) (frame : Frame) (v : Value) (w : World) → GoodFrame asked c y frame w → GoodFrame asked (in_clause c) y (handling frame v) w
+  handling_in : (c : Around) (y : asked.is → Sight) (frame : Frame) (v : Value) (w : World) → GoodFrame asked c y frame w → GoodFrame asked (in_clause c) y (handling frame v) w
   handling_in c y frame v w h = record { fits = handling_fits c frame w.objects h.fits v; sees = λ g. handling_sees (y g) frame w (h.sees g) v }
 
-  sequence_in : (c : Around) (y : asked → Sight) (frame : Frame) (n : ℕ) (w : World) → GoodFrame asked c y frame w → GoodFrame asked c y (in_sequence n frame) w
+  sequence_in : (c : Around) (y : asked.is → Sight) (frame : Frame) (n : ℕ) (w : World) → GoodFrame asked c y frame w → GoodFrame asked c y (in_sequence n frame) w
   sequence_in c y frame n w h = record { fits = sequence_fits c frame w.objects h.fits n; sees = λ g. sequence_sees (y g) frame w (h.sees g) n }
 
-  part_in : (c : Around) (y : asked → Sight) (frame : Frame) (n : ℕ) (w : World) → GoodFrame asked c y frame w → GoodFrame asked (outside_clause c) y (in_sequence n frame) w
+  part_in : (c : Around) (y : asked.is → Sight) (frame : Frame) (n : ℕ) (w : World) → GoodFrame asked c y frame w → GoodFrame asked (outside_clause c) y (in_sequence n frame) w
   part_in c y frame n w h = record { fits = part_fits c frame w.objects h.fits n; sees = λ g. sequence_sees (y g) frame w (h.sees g) n }
 
-  loop_of : (c : Around) (y : asked → Sight) (frame : Frame) (w : World) → GoodFrame asked c y frame w → GoodFrame asked (in_loop c) y (in_loop_of frame) w
+  loop_of : (c : Around) (y : asked.is → Sight) (frame : Frame) (w : World) → GoodFrame asked c y frame w → GoodFrame asked (in_loop c) y (in_loop_of frame) w
   loop_of c y frame w h = record { fits = loop_fits c frame w.objects h.fits; sees = λ g. loop_sees (y g) frame w (h.sees g) }
 
 unless_nil_keeps : (k : Known) (c : Around) (v : Value) (go : Run) → Keeps k c go → Keeps k c (unless_nil v go)
@@ -75,7 +76,7 @@ unless_nil_keeps k c (symbol_named x) go h = h
 unless_nil_keeps k c (object n) go h = h
 
 -- The block of a call.
-keep_with_block : (asked : Type 0) (c : Around) (y : asked → Sight) (t : Other) (frame : Frame) (given : Given) (go : Frame → Given → Run) → OtherPlaced (in_block c) t → ((g : asked) → BlockHoused (y g) t) →
+keep_with_block : (asked : Asked) (c : Around) (y : asked.is → Sight) (t : Other) (frame : Frame) (given : Given) (go : Frame → Given → Run) → OtherPlaced (in_block c) t → ((g : asked.is) → BlockHoused (asked.told frame.code.source) (y g) t) →
     ((ns : List ℕ) (own : Given) → Keeps (in_frame asked c y (record frame { calling = ns })) c (go (record frame { calling = ns }) own)) → Keeps (in_frame asked c y frame) c (go frame given) →
     Keeps (in_frame asked c y frame) c (with_block t frame given go)
 keep_with_block asked c y without frame given go placed housed h g = g
@@ -83,38 +84,38 @@ keep_with_block asked c y (with t) frame given go placed housed h g =
     let k : Known = in_frame asked c y frame in
     keep_reading k c (λ w. length w.closures) _ (λ n.
     keep_changing k c (with_closure (closure_here frame t)) _
-    (λ w p s. moves_closure asked (closure_here frame t) w (record { stored = (c, block_stands c frame t w.objects placed p.fits); housed = λ a. (y a, block_made (y a) frame t w (housed a) (p.sees a)) }) s)
+    (λ w p s. moves_closure asked (closure_here frame t) w (record { stored = (c, block_stands c frame t w.objects placed p.fits); housed = λ a. (y a, block_made asked.told (y a) frame t w (housed a).0 (housed a).1 (p.sees a)) }) s)
     (record {
       by = λ w p s. broken_out asked c n w (go (record frame { calling = n ∷ frame.calling }) (literal_block n) w) ((h (n ∷ frame.calling) (literal_block n)).by w (calling_in asked c y frame (n ∷ frame.calling) w p) s);
     }))
 
-module _ (asked : Type 0) (files : Files) (are : ArePlaced files) (held : asked → AreHoused files) (fuel : ℕ) (b : Tree → Frame → Run) (h : Bodies asked b) where
-  keep_send_with : (c : Around) (y : asked → Sight) (inner frame : Frame) (line : ℕ) (self : Value) (x : Bytes) (ks : List ℕ) (vs : List Value) (bare : Bool) (given : Given) → Keeps (in_frame asked c y inner) c (send_with files fuel b frame line self x ks vs bare inner given)
+module _ (asked : Asked) (files : Files) (are : ArePlaced files) (held : asked.is → AreHoused asked.told files) (fuel : ℕ) (b : Tree → Frame → Run) (h : Bodies asked b) where
+  keep_send_with : (c : Around) (y : asked.is → Sight) (inner frame : Frame) (line : ℕ) (self : Value) (x : Bytes) (ks : List ℕ) (vs : List Value) (bare : Bool) (given : Given) → Keeps (in_frame asked c y inner) c (send_with files fuel b frame line self x ks vs bare inner given)
   keep_send_with c y inner frame line self x ks vs bare given = keep_reading (in_frame asked c y inner) c (spread ks vs) _ (λ us. keep_call (in_frame asked c y inner) c files are held b h inner line self x us given bare)
 
-  keep_super_with : (c : Around) (y : asked → Sight) (inner : Frame) (line : ℕ) (vs : List Value) (own : Given) (r : Running) (given : Given) → Keeps (in_frame asked c y inner) c (super_with files fuel b line vs own r inner given)
+  keep_super_with : (c : Around) (y : asked.is → Sight) (inner : Frame) (line : ℕ) (vs : List Value) (own : Given) (r : Running) (given : Given) → Keeps (in_frame asked c y inner) c (super_with files fuel b line vs own r inner given)
   keep_super_with c y inner line vs own r given =
       let k : Known = in_frame asked c y inner in
       keep_read k c (super_found inner r) (run_if_found files b inner line inner.self_value r.name vs given false) (λ w p s.
       if_found_out k c files are held b h inner line inner.self_value r.name vs given false (super_found inner r w) w (find_is (GoodCode asked w.objects) w.objects r.name s.rows (places_behind r.place (places_for w.objects inner.self_value))) p s)
 
-  keep_super_to : (c : Around) (y : asked → Sight) (r : Option Running) (frame : Frame) (line : ℕ) (t : Other) (given : Given) (vs : List Value) → OtherPlaced (in_block c) t → ((g : asked) → BlockHoused (y g) t) → Keeps (in_frame asked c y frame) c (super_to files fuel b r frame line t given vs)
+  keep_super_to : (c : Around) (y : asked.is → Sight) (r : Option Running) (frame : Frame) (line : ℕ) (t : Other) (given : Given) (vs : List Value) → OtherPlaced (in_block c) t → ((g : asked.is) → BlockHoused (asked.told frame.code.source) (y g) t) → Keeps (in_frame asked c y frame) c (super_to files fuel b r frame line t given vs)
   keep_super_to c y None frame line t given vs placed housed = keep_no_method (in_frame asked c y frame) c frame line frame.self_value [] false
   keep_super_to c y (Some r) frame line t given vs placed housed =
       keep_with_block asked c y t frame given (super_with files fuel b line vs given r) placed housed (λ ns own. keep_super_with c y (record frame { calling = ns }) line vs given r own) (keep_super_with c y frame line vs given r given)
 
-  keep_set_by_send : (c : Around) (y : asked → Sight) (frame : Frame) (line : ℕ) (self : Value) (x : Bytes) (vs : List Value) (v : Value) → Keeps (in_frame asked c y frame) c (set_by_send files fuel b frame line self x vs v)
+  keep_set_by_send : (c : Around) (y : asked.is → Sight) (frame : Frame) (line : ℕ) (self : Value) (x : Bytes) (vs : List Value) (v : Value) → Keeps (in_frame asked c y frame) c (set_by_send files fuel b frame line self x vs v)
   keep_set_by_send c y frame line self x vs v = keep_then (in_frame asked c y frame) c _ _ (keep_send (in_frame asked c y frame) c files are held b h frame line self x vs) (λ u. keep_done (in_frame asked c y frame) c v)
 
   -- in a call's frame, the sends
-  sends : (c : Around) (y : asked → Sight) (frame : Frame) (line : ℕ) (self : Value) (x : Bytes) (vs : List Value) → Keeps (in_frame asked c y frame) c (send_to files b frame line self x vs)
+  sends : (c : Around) (y : asked.is → Sight) (frame : Frame) (line : ℕ) (self : Value) (x : Bytes) (vs : List Value) → Keeps (in_frame asked c y frame) c (send_to files b frame line self x vs)
   sends c y frame line self x vs = keep_send (in_frame asked c y frame) c files are held b h frame line self x vs
 
   mutual
-    pub keep_run : (c : Around) (y : asked → Sight) (t : Tree) (frame : Frame) → IsPlaced c t → ((g : asked) → IsHoused (y g) t) → Keeps (in_frame asked c y frame) c (run files fuel b t frame)
+    pub keep_run : (c : Around) (y : asked.is → Sight) (t : Tree) (frame : Frame) → IsPlaced c t → ((g : asked.is) → IsHoused (asked.told frame.code.source) (y g) t) → Keeps (in_frame asked c y frame) c (run files fuel b t frame)
     keep_run c y (at s x) frame p j = keep_form c y x s frame p.0 p.1 j
 
-    keep_form : (c : Around) (y : asked → Sight) (x : Form) (s : SourcePosition) (frame : Frame) → is_fault c x ≡ false → FormPlaced c x → ((g : asked) → FormHoused (y g) x) → Keeps (in_frame asked c y frame) c (run_form files fuel b x s frame)
+    keep_form : (c : Around) (y : asked.is → Sight) (x : Form) (s : SourcePosition) (frame : Frame) → is_fault c x ≡ false → FormPlaced c x → ((g : asked.is) → FormHoused (asked.told frame.code.source) (y g) x) → Keeps (in_frame asked c y frame) c (run_form files fuel b x s frame)
     keep_form c y nil_value s frame e p j = keep_done (in_frame asked c y frame) c nil
     keep_form c y true_value s frame e p j = keep_done (in_frame asked c y frame) c yes
     keep_form c y false_value s frame e p j = keep_done (in_frame asked c y frame) c no
@@ -204,90 +205,90 @@ module _ (asked : Type 0) (files : Files) (are : ArePlaced files) (held : asked 
           by = λ w q z. part_out asked c w (run files fuel b a (in_sequence s.first frame) w) ((keep_run (outside_clause c) y a (in_sequence s.first frame) p j).by w (part_in asked c y frame s.first w q) z);
         })
     keep_form c y (method x t on_self) s frame e p j = keep_define_method (in_frame asked c y frame) c frame (classes_of asked c y frame) t p j s.line x on_self
-    keep_form c y (class o x t) s frame e p j = keep_class c y o x frame s.line _ p.0 (λ g. (j g).0) (keep_open_class (in_frame asked c y frame) c frame (classes_of asked c y frame) s.line t _ (λ inner. keep_run (at_home placement.in_class) (λ g. body_sight t) t inner p.1 (λ g. (j g).1)))
-    keep_form c y (module_named x t) s frame e p j = keep_module_named (in_frame asked c y frame) c frame (classes_of asked c y frame) x _ (keep_open_class (in_frame asked c y frame) c frame (classes_of asked c y frame) s.line t _ (λ inner. keep_run (at_home placement.in_class) (λ g. body_sight t) t inner p j)) s.line
+    keep_form c y (class o x t) s frame e p j = keep_class c y o x frame s.line _ p.0 (λ g. (j g).0) (keep_open_class (in_frame asked c y frame) c frame (classes_of asked c y frame) s.line t (run files fuel b t) (λ n i. keep_run (at_home placement.in_class) (λ g. body_sight t) t (class_frame frame s.line t n i) p.1 (λ g. (j g).1.0)))
+    keep_form c y (module_named x t) s frame e p j = keep_module_named (in_frame asked c y frame) c frame (classes_of asked c y frame) x _ (keep_open_class (in_frame asked c y frame) c frame (classes_of asked c y frame) s.line t (run files fuel b t) (λ n i. keep_run (at_home placement.in_class) (λ g. body_sight t) t (class_frame frame s.line t n i) p (λ g. (j g).0))) s.line
     keep_form c y (body ps t) s frame e p j = keep_defaults c y ps frame frame.given _ p.0 (λ g. (j g).0) (keep_run c y t frame p.1 (λ g. (j g).1))
 
-    keep_all : (c : Around) (y : asked → Sight) (ts : Trees) (frame : Frame) (v : Value) → TreesPlaced c ts → ((g : asked) → TreesHoused (y g) ts) → Keeps (in_frame asked c y frame) c (run_all files fuel b ts frame v)
+    keep_all : (c : Around) (y : asked.is → Sight) (ts : Trees) (frame : Frame) (v : Value) → TreesPlaced c ts → ((g : asked.is) → TreesHoused (asked.told frame.code.source) (y g) ts) → Keeps (in_frame asked c y frame) c (run_all files fuel b ts frame v)
     keep_all c y no_more frame v p j = keep_done (in_frame asked c y frame) c v
     keep_all c y (more t ts) frame v p j = keep_then (in_frame asked c y frame) c _ _ (keep_run c y t frame p.0 (λ g. (j g).0)) (λ u. keep_all c y ts frame u p.1 (λ g. (j g).1))
 
-    keep_trees : (c : Around) (y : asked → Sight) (ts : Trees) (frame : Frame) (vs : List Value) (go : List Value → Run) → TreesPlaced c ts → ((g : asked) → TreesHoused (y g) ts) → ((us : List Value) → Keeps (in_frame asked c y frame) c (go us)) → Keeps (in_frame asked c y frame) c (run_trees files fuel b ts frame vs go)
+    keep_trees : (c : Around) (y : asked.is → Sight) (ts : Trees) (frame : Frame) (vs : List Value) (go : List Value → Run) → TreesPlaced c ts → ((g : asked.is) → TreesHoused (asked.told frame.code.source) (y g) ts) → ((us : List Value) → Keeps (in_frame asked c y frame) c (go us)) → Keeps (in_frame asked c y frame) c (run_trees files fuel b ts frame vs go)
     keep_trees c y no_more frame vs go p j k = k vs
     keep_trees c y (more t ts) frame vs go p j k = keep_then (in_frame asked c y frame) c _ _ (keep_run c y t frame p.0 (λ g. (j g).0)) (λ v. keep_trees c y ts frame (vs ++ v ∷ []) go p.1 (λ g. (j g).1) k)
 
-    keep_other : (c : Around) (y : asked → Sight) (o : Other) (frame : Frame) → OtherPlaced c o → ((g : asked) → OtherHoused (y g) o) → Keeps (in_frame asked c y frame) c (run_other files fuel b o frame)
+    keep_other : (c : Around) (y : asked.is → Sight) (o : Other) (frame : Frame) → OtherPlaced c o → ((g : asked.is) → OtherHoused (asked.told frame.code.source) (y g) o) → Keeps (in_frame asked c y frame) c (run_other files fuel b o frame)
     keep_other c y without frame p j = keep_done (in_frame asked c y frame) c nil
     keep_other c y (with t) frame p j = keep_run c y t frame p j
 
-    keep_last : (c : Around) (y : asked → Sight) (o : Other) (frame : Frame) (v : Value) → OtherPlaced c o → ((g : asked) → OtherHoused (y g) o) → Keeps (in_frame asked c y frame) c (run_last files fuel b o frame v)
+    keep_last : (c : Around) (y : asked.is → Sight) (o : Other) (frame : Frame) (v : Value) → OtherPlaced c o → ((g : asked.is) → OtherHoused (asked.told frame.code.source) (y g) o) → Keeps (in_frame asked c y frame) c (run_last files fuel b o frame v)
     keep_last c y without frame v p j = keep_done (in_frame asked c y frame) c v
     keep_last c y (with t) frame v p j = keep_run c y t frame p j
 
-    keep_receiver : (c : Around) (y : asked → Sight) (o : Other) (frame : Frame) (go : Value → Run) → OtherPlaced c o → ((g : asked) → OtherHoused (y g) o) → ((v : Value) → Keeps (in_frame asked c y frame) c (go v)) → Keeps (in_frame asked c y frame) c (run_receiver files fuel b o frame go)
+    keep_receiver : (c : Around) (y : asked.is → Sight) (o : Other) (frame : Frame) (go : Value → Run) → OtherPlaced c o → ((g : asked.is) → OtherHoused (asked.told frame.code.source) (y g) o) → ((v : Value) → Keeps (in_frame asked c y frame) c (go v)) → Keeps (in_frame asked c y frame) c (run_receiver files fuel b o frame go)
     keep_receiver c y without frame go p j k = k frame.self_value
     keep_receiver c y (with t) frame go p j k = keep_then (in_frame asked c y frame) c _ _ (keep_run c y t frame p j) k
 
-    keep_block_value : (c : Around) (y : asked → Sight) (o : Other) (frame : Frame) (line : ℕ) (given : Given) (go : Given → Run) → OtherPlaced c o → ((g : asked) → OtherHoused (y g) o) → ((x : Given) → Keeps (in_frame asked c y frame) c (go x)) → Keeps (in_frame asked c y frame) c (run_given_value files fuel b o frame line given go)
+    keep_block_value : (c : Around) (y : asked.is → Sight) (o : Other) (frame : Frame) (line : ℕ) (given : Given) (go : Given → Run) → OtherPlaced c o → ((g : asked.is) → OtherHoused (asked.told frame.code.source) (y g) o) → ((x : Given) → Keeps (in_frame asked c y frame) c (go x)) → Keeps (in_frame asked c y frame) c (run_given_value files fuel b o frame line given go)
     keep_block_value c y without frame line given go p j k = k given
     keep_block_value c y (with t) frame line given go p j k = keep_then (in_frame asked c y frame) c _ _ (keep_run c y t frame p j) (λ v. keep_given_value (in_frame asked c y frame) c frame line v go k)
 
-    keep_path : (c : Around) (y : asked → Sight) (o : Other) (top : Bool) (xs : List Bytes) (frame : Frame) (line : ℕ) → OtherPlaced c o → ((g : asked) → OtherHoused (y g) o) → Keeps (in_frame asked c y frame) c (run_path files fuel b o top xs frame line)
+    keep_path : (c : Around) (y : asked.is → Sight) (o : Other) (top : Bool) (xs : List Bytes) (frame : Frame) (line : ℕ) → OtherPlaced c o → ((g : asked.is) → OtherHoused (asked.told frame.code.source) (y g) o) → Keeps (in_frame asked c y frame) c (run_path files fuel b o top xs frame line)
     keep_path c y without top xs frame line p j =
         keep_choose (in_frame asked c y frame) c top _ _ (keep_path_from (in_frame asked c y frame) c frame (classes_of asked c y frame) line xs (object object_class)) (keep_path_around (in_frame asked c y frame) c frame (classes_of asked c y frame) line xs)
     keep_path c y (with t) top xs frame line p j = keep_then (in_frame asked c y frame) c _ _ (keep_run c y t frame p j) (λ v. keep_path_from (in_frame asked c y frame) c frame (classes_of asked c y frame) line xs v)
 
-    keep_class : (c : Around) (y : asked → Sight) (o : Other) (x : Bytes) (frame : Frame) (line : ℕ) (go : ℕ → Run) → OtherPlaced c o → ((g : asked) → OtherHoused (y g) o) → ((n : ℕ) → Keeps (with_class (in_frame asked c y frame) n) c (go n)) → Keeps (in_frame asked c y frame) c (run_class files fuel b o x frame line go)
+    keep_class : (c : Around) (y : asked.is → Sight) (o : Other) (x : Bytes) (frame : Frame) (line : ℕ) (go : ℕ → Run) → OtherPlaced c o → ((g : asked.is) → OtherHoused (asked.told frame.code.source) (y g) o) → ((n : ℕ) → Keeps (with_class (in_frame asked c y frame) n) c (go n)) → Keeps (in_frame asked c y frame) c (run_class files fuel b o x frame line go)
     keep_class c y without x frame line go p j k = keep_class_named (in_frame asked c y frame) c frame (classes_of asked c y frame) x go k line
     keep_class c y (with t) x frame line go p j k = keep_then (in_frame asked c y frame) c _ _ (keep_run c y t frame p j) (λ v. keep_class_below (in_frame asked c y frame) c frame (classes_of asked c y frame) x go k line v)
 
-    keep_pairs : (c : Around) (y : asked → Sight) (ps : Pairs) (frame : Frame) (qs : List (Value × Value)) (go : List (Value × Value) → Run) → PairsPlaced c ps → ((g : asked) → PairsHoused (y g) ps) → ((rs : List (Value × Value)) → Keeps (in_frame asked c y frame) c (go rs)) → Keeps (in_frame asked c y frame) c (run_pairs files fuel b ps frame qs go)
+    keep_pairs : (c : Around) (y : asked.is → Sight) (ps : Pairs) (frame : Frame) (qs : List (Value × Value)) (go : List (Value × Value) → Run) → PairsPlaced c ps → ((g : asked.is) → PairsHoused (asked.told frame.code.source) (y g) ps) → ((rs : List (Value × Value)) → Keeps (in_frame asked c y frame) c (go rs)) → Keeps (in_frame asked c y frame) c (run_pairs files fuel b ps frame qs go)
     keep_pairs c y no_pair frame qs go p j k = k qs
     keep_pairs c y (pair t u ps) frame qs go p j k =
         keep_then (in_frame asked c y frame) c _ _ (keep_run c y t frame p.0 (λ g. (j g).0)) (λ x. keep_then (in_frame asked c y frame) c _ _ (keep_run c y u frame p.1.0 (λ g. (j g).1.0)) (λ v. keep_pairs c y ps frame (qs ++ (x, v) ∷ []) go p.1.1 (λ g. (j g).1.1) k))
 
-    keep_pieces : (c : Around) (y : asked → Sight) (ps : Pieces) (frame : Frame) (line : ℕ) (vs : List Value) (go : List Value → Run) → PiecesPlaced c ps → ((g : asked) → PiecesHoused (y g) ps) → ((us : List Value) → Keeps (in_frame asked c y frame) c (go us)) → Keeps (in_frame asked c y frame) c (run_pieces files fuel b ps frame line vs go)
+    keep_pieces : (c : Around) (y : asked.is → Sight) (ps : Pieces) (frame : Frame) (line : ℕ) (vs : List Value) (go : List Value → Run) → PiecesPlaced c ps → ((g : asked.is) → PiecesHoused (asked.told frame.code.source) (y g) ps) → ((us : List Value) → Keeps (in_frame asked c y frame) c (go us)) → Keeps (in_frame asked c y frame) c (run_pieces files fuel b ps frame line vs go)
     keep_pieces c y no_piece frame line vs go p j k = k vs
     keep_pieces c y (plain_piece x ps) frame line vs go p j k = keep_then (in_frame asked c y frame) c _ _ (keep_string (in_frame asked c y frame) c x) (λ v. keep_pieces c y ps frame line (vs ++ v ∷ []) go p j k)
     keep_pieces c y (code_piece t ps) frame line vs go p j k =
         keep_then (in_frame asked c y frame) c _ _ (keep_run c y t frame p.0 (λ g. (j g).0)) (λ v. keep_then (in_frame asked c y frame) c _ _ (sends c y frame line v (codes "to_s") []) (λ u.
         keep_then (in_frame asked c y frame) c _ _ (keep_piece (in_frame asked c y frame) c v u) (λ x. keep_pieces c y ps frame line (vs ++ x ∷ []) go p.1 (λ g. (j g).1) k)))
 
-    keep_whens : (c : Around) (y : asked → Sight) (ws : Whens) (frame : Frame) (v : Value) (last : Run) → WhensPlaced c ws → ((g : asked) → WhensHoused (y g) ws) → Keeps (in_frame asked c y frame) c last → Keeps (in_frame asked c y frame) c (run_whens files fuel b ws frame v last)
+    keep_whens : (c : Around) (y : asked.is → Sight) (ws : Whens) (frame : Frame) (v : Value) (last : Run) → WhensPlaced c ws → ((g : asked.is) → WhensHoused (asked.told frame.code.source) (y g) ws) → Keeps (in_frame asked c y frame) c last → Keeps (in_frame asked c y frame) c (run_whens files fuel b ws frame v last)
     keep_whens c y no_when frame v last p j k = k
     keep_whens c y (when ts t ws) frame v last p j k = keep_patterns c y ts frame v _ _ p.0 (λ g. (j g).0) (keep_run c y t frame p.1.0 (λ g. (j g).1.0)) (keep_whens c y ws frame v last p.1.1 (λ g. (j g).1.1) k)
 
-    keep_patterns : (c : Around) (y : asked → Sight) (ts : Trees) (frame : Frame) (v : Value) (hit rest : Run) → TreesPlaced c ts → ((g : asked) → TreesHoused (y g) ts) → Keeps (in_frame asked c y frame) c hit → Keeps (in_frame asked c y frame) c rest → Keeps (in_frame asked c y frame) c (run_patterns files fuel b ts frame v hit rest)
+    keep_patterns : (c : Around) (y : asked.is → Sight) (ts : Trees) (frame : Frame) (v : Value) (hit rest : Run) → TreesPlaced c ts → ((g : asked.is) → TreesHoused (asked.told frame.code.source) (y g) ts) → Keeps (in_frame asked c y frame) c hit → Keeps (in_frame asked c y frame) c rest → Keeps (in_frame asked c y frame) c (run_patterns files fuel b ts frame v hit rest)
     keep_patterns c y no_more frame v hit rest p j k l = l
     keep_patterns c y (more t ts) frame v hit rest p j k l =
         keep_then (in_frame asked c y frame) c _ _ (keep_run c y t frame p.0 (λ g. (j g).0)) (λ u. keep_then (in_frame asked c y frame) c _ _ (sends c y frame 0 u (codes "===") (v ∷ [])) (λ r.
         keep_choose (in_frame asked c y frame) c (is_true r) _ _ k (keep_patterns c y ts frame v hit rest p.1 (λ g. (j g).1) k l)))
 
-    keep_tests : (c : Around) (y : asked → Sight) (ws : Whens) (frame : Frame) (last : Run) → WhensPlaced c ws → ((g : asked) → WhensHoused (y g) ws) → Keeps (in_frame asked c y frame) c last → Keeps (in_frame asked c y frame) c (run_tests files fuel b ws frame last)
+    keep_tests : (c : Around) (y : asked.is → Sight) (ws : Whens) (frame : Frame) (last : Run) → WhensPlaced c ws → ((g : asked.is) → WhensHoused (asked.told frame.code.source) (y g) ws) → Keeps (in_frame asked c y frame) c last → Keeps (in_frame asked c y frame) c (run_tests files fuel b ws frame last)
     keep_tests c y no_when frame last p j k = k
     keep_tests c y (when ts t ws) frame last p j k = keep_any c y ts frame _ _ p.0 (λ g. (j g).0) (keep_run c y t frame p.1.0 (λ g. (j g).1.0)) (keep_tests c y ws frame last p.1.1 (λ g. (j g).1.1) k)
 
-    keep_any : (c : Around) (y : asked → Sight) (ts : Trees) (frame : Frame) (hit rest : Run) → TreesPlaced c ts → ((g : asked) → TreesHoused (y g) ts) → Keeps (in_frame asked c y frame) c hit → Keeps (in_frame asked c y frame) c rest → Keeps (in_frame asked c y frame) c (run_any files fuel b ts frame hit rest)
+    keep_any : (c : Around) (y : asked.is → Sight) (ts : Trees) (frame : Frame) (hit rest : Run) → TreesPlaced c ts → ((g : asked.is) → TreesHoused (asked.told frame.code.source) (y g) ts) → Keeps (in_frame asked c y frame) c hit → Keeps (in_frame asked c y frame) c rest → Keeps (in_frame asked c y frame) c (run_any files fuel b ts frame hit rest)
     keep_any c y no_more frame hit rest p j k l = l
     keep_any c y (more t ts) frame hit rest p j k l = keep_then (in_frame asked c y frame) c _ _ (keep_run c y t frame p.0 (λ g. (j g).0)) (λ r. keep_choose (in_frame asked c y frame) c (is_true r) _ _ k (keep_any c y ts frame hit rest p.1 (λ g. (j g).1) k l))
 
-    keep_clauses : (c : Around) (y : asked → Sight) (cs : Rescues) (frame : Frame) (line : ℕ) → ClausesPlaced c cs → ((g : asked) → ClausesHoused (y g) cs) → Keeps (in_frame asked c y frame) c (run_clauses files fuel b cs frame line)
+    keep_clauses : (c : Around) (y : asked.is → Sight) (cs : Rescues) (frame : Frame) (line : ℕ) → ClausesPlaced c cs → ((g : asked.is) → ClausesHoused (asked.told frame.code.source) (y g) cs) → Keeps (in_frame asked c y frame) c (run_clauses files fuel b cs frame line)
     keep_clauses c y no_clause frame line p j = keep_raise (in_frame asked c y frame) c frame.handled
     keep_clauses c y (clause ts x t cs) frame line p j =
         keep_clause c y ts frame line _ _ p.0 (λ g. (j g).0) (keep_changing (in_frame asked c y frame) c (set_exception frame x) _ (λ w q s. moves_exception asked frame x w s) (keep_run c y t frame p.1.0 (λ g. (j g).1.1.0))) (keep_clauses c y cs frame line p.1.1 (λ g. (j g).1.1.1))
 
-    keep_clause : (c : Around) (y : asked → Sight) (ts : Trees) (frame : Frame) (line : ℕ) (hit rest : Run) → TreesPlaced c ts → ((g : asked) → TreesHoused (y g) ts) → Keeps (in_frame asked c y frame) c hit → Keeps (in_frame asked c y frame) c rest → Keeps (in_frame asked c y frame) c (run_clause files fuel b ts frame line hit rest)
+    keep_clause : (c : Around) (y : asked.is → Sight) (ts : Trees) (frame : Frame) (line : ℕ) (hit rest : Run) → TreesPlaced c ts → ((g : asked.is) → TreesHoused (asked.told frame.code.source) (y g) ts) → Keeps (in_frame asked c y frame) c hit → Keeps (in_frame asked c y frame) c rest → Keeps (in_frame asked c y frame) c (run_clause files fuel b ts frame line hit rest)
     keep_clause c y no_more frame line hit rest p j k l =
         keep_then (in_frame asked c y frame) c _ _ (keep_path_from (in_frame asked c y frame) c frame (classes_of asked c y frame) 0 (codes "StandardError" ∷ []) (object object_class)) (λ v. keep_match (in_frame asked c y frame) c frame line v _ _ k l)
     keep_clause c y (more t ts) frame line hit rest p j k l =
         keep_then (in_frame asked c y frame) c _ _ (keep_run c y t frame p.0 (λ g. (j g).0)) (λ v. keep_match (in_frame asked c y frame) c frame line v _ _ k (keep_classes c y ts frame line hit rest p.1 (λ g. (j g).1) k l))
 
-    keep_classes : (c : Around) (y : asked → Sight) (ts : Trees) (frame : Frame) (line : ℕ) (hit rest : Run) → TreesPlaced c ts → ((g : asked) → TreesHoused (y g) ts) → Keeps (in_frame asked c y frame) c hit → Keeps (in_frame asked c y frame) c rest → Keeps (in_frame asked c y frame) c (run_classes files fuel b ts frame line hit rest)
+    keep_classes : (c : Around) (y : asked.is → Sight) (ts : Trees) (frame : Frame) (line : ℕ) (hit rest : Run) → TreesPlaced c ts → ((g : asked.is) → TreesHoused (asked.told frame.code.source) (y g) ts) → Keeps (in_frame asked c y frame) c hit → Keeps (in_frame asked c y frame) c rest → Keeps (in_frame asked c y frame) c (run_classes files fuel b ts frame line hit rest)
     keep_classes c y no_more frame line hit rest p j k l = l
     keep_classes c y (more t ts) frame line hit rest p j k l =
         keep_then (in_frame asked c y frame) c _ _ (keep_run c y t frame p.0 (λ g. (j g).0)) (λ v. keep_match (in_frame asked c y frame) c frame line v _ _ k (keep_classes c y ts frame line hit rest p.1 (λ g. (j g).1) k l))
 
-    keep_defaults : (c : Around) (y : asked → Sight) (ps : Params) (frame : Frame) (n : ℕ) (go : Run) → ParamsPlaced c ps → ((g : asked) → ParamsHoused (y g) ps) → Keeps (in_frame asked c y frame) c go → Keeps (in_frame asked c y frame) c (run_defaults files fuel b ps frame n go)
+    keep_defaults : (c : Around) (y : asked.is → Sight) (ps : Params) (frame : Frame) (n : ℕ) (go : Run) → ParamsPlaced c ps → ((g : asked.is) → ParamsHoused (asked.told frame.code.source) (y g) ps) → Keeps (in_frame asked c y frame) c go → Keeps (in_frame asked c y frame) c (run_defaults files fuel b ps frame n go)
     keep_defaults c y no_param frame n go p j k = k
     keep_defaults c y (required x ps) frame n go p j k = keep_defaults c y ps frame n go p (λ g. (j g).1) k
     keep_defaults c y (optional x t ps) frame n go p j k =
@@ -298,11 +299,11 @@ module _ (asked : Type 0) (files : Files) (are : ArePlaced files) (held : asked 
 
 -- The evaluation, by its fuel.
 
-module _ (asked : Type 0) where
+module _ (asked : Asked) where
   none_runs : Bodies asked (λ t frame. Spent)
   none_runs c y t inner placed housed = keep_stay (in_frame asked c y inner) c Spent (λ w. refl) (λ w. tt)
 
-  module _ (files : Files) (are : ArePlaced files) (held : asked → AreHoused files) where
+  module _ (files : Files) (are : ArePlaced files) (held : asked.is → AreHoused asked.told files) where
     pub keep_eval : (fuel : ℕ) → Bodies asked (eval files fuel)
     keep_eval zero c y t frame placed housed = keep_run asked files are held zero (λ t frame. Spent) none_runs c y t frame placed housed
     keep_eval (suc fuel) c y t frame placed housed = keep_run asked files are held (suc fuel) (eval files fuel) (keep_eval fuel) c y t frame placed housed
@@ -313,42 +314,42 @@ module _ (asked : Type 0) where
 -- As the laws say it: where nothing is asked of housing.
 
 module _ (files : Files) (are : ArePlaced files) where
-  stored_in : (c : Around) (t : Tree) (frame : Frame) (w : World) (m : Run) → Keeps (in_frame ⊥ c (λ g. absurd g) frame) c m → FrameFits c frame w.objects → IsStored w → StoredOut c w (m w)
+  stored_in : (c : Around) (t : Tree) (frame : Frame) (w : World) (m : Run) → Keeps (in_frame unasked c (λ g. absurd g) frame) c m → FrameFits c frame w.objects → IsStored w → StoredOut c w (m w)
   stored_in c t frame w m h fits s =
-      let o : GoodOut ⊥ c w (m w) = h.by w (record { fits = fits; sees = λ g. absurd g }) (good_of ⊥ w s (λ g. absurd g)) in
-      record { leads = o.leads.store; stored = stored_of ⊥ (world_of (m w)) o.good; placed = o.placed }
+      let o : GoodOut unasked c w (m w) = h.by w (record { fits = fits; sees = λ g. absurd g }) (good_of unasked w s (λ g. absurd g)) in
+      record { leads = o.leads.store; stored = stored_of unasked (world_of (m w)) o.good; placed = o.placed }
 
-  stored_bodies : (b : Tree → Frame → Run) → StaysStored b → Bodies ⊥ b
+  stored_bodies : (b : Tree → Frame → Run) → StaysStored b → Bodies unasked b
   stored_bodies b h c y t inner placed housed = record {
     by = λ w p s.
-        let o : StoredOut c w (b t inner w) = h c t inner w placed p.fits (stored_of ⊥ w s) in
-        record { leads = record { store = o.leads; rooms = λ g. absurd g }; good = good_of ⊥ (world_of (b t inner w)) o.stored (λ g. absurd g); placed = o.placed };
+        let o : StoredOut c w (b t inner w) = h c t inner w placed p.fits (stored_of unasked w s) in
+        record { leads = record { store = o.leads; rooms = λ g. absurd g }; good = good_of unasked (world_of (b t inner w)) o.stored (λ g. absurd g); placed = o.placed };
   }
 
   pub run_stays : (fuel : ℕ) (b : Tree → Frame → Run) → StaysStored b → StaysStored (run files fuel b)
-  run_stays fuel b h c t frame w placed fits s = stored_in c t frame w _ (keep_run ⊥ files are (λ g. absurd g) fuel b (stored_bodies b h) c (λ g. absurd g) t frame placed (λ g. absurd g)) fits s
+  run_stays fuel b h c t frame w placed fits s = stored_in c t frame w _ (keep_run unasked files are (λ g. absurd g) fuel b (stored_bodies b h) c (λ g. absurd g) t frame placed (λ g. absurd g)) fits s
 
   pub evaluate_stays : StaysStored (evaluate files)
-  evaluate_stays c t frame w placed fits s = stored_in c t frame w _ (keep_evaluate ⊥ files are (λ g. absurd g) c (λ g. absurd g) t frame placed (λ g. absurd g)) fits s
+  evaluate_stays c t frame w placed fits s = stored_in c t frame w _ (keep_evaluate unasked files are (λ g. absurd g) c (λ g. absurd g) t frame placed (λ g. absurd g)) fits s
 
 -- And where it is asked.
 
-module _ (files : Files) (are : ArePlaced files) (held : AreHoused files) where
-  housed_in : (c : Around) (s : Sight) (t : Tree) (frame : Frame) (w : World) (m : Run) → Keeps (in_frame (Unit {0}) c (λ g. s) frame) c m → InPlace c s t frame w → StoredOut c w (m w) × HousedOut w (m w)
+module _ (told : Telling) (files : Files) (are : ArePlaced files) (held : AreHoused told files) where
+  housed_in : (c : Around) (s : Sight) (t : Tree) (frame : Frame) (w : World) (m : Run) → Keeps (in_frame (asked_by told) c (λ g. s) frame) c m → InPlace told c s t frame w → StoredOut c w (m w) × HousedOut told w (m w)
   housed_in c s t frame w m h p =
-      let o : GoodOut (Unit {0}) c w (m w) = h.by w (record { fits = p.fits; sees = λ g. p.sight }) (good_of (Unit {0}) w p.stored (λ g. p.world)) in
-      (record { leads = o.leads.store; stored = stored_of (Unit {0}) (world_of (m w)) o.good; placed = o.placed }, record { stay = o.leads.rooms tt; housed = housed_of (Unit {0}) (world_of (m w)) o.good tt })
+      let o : GoodOut (asked_by told) c w (m w) = h.by w (record { fits = p.fits; sees = λ g. p.sight }) (good_of (asked_by told) w p.stored (λ g. p.world)) in
+      (record { leads = o.leads.store; stored = stored_of (asked_by told) (world_of (m w)) o.good; placed = o.placed }, record { stay = o.leads.rooms tt; housed = housed_of (asked_by told) (world_of (m w)) o.good tt })
 
-  housed_bodies : (b : Tree → Frame → Run) → StaysHoused b → Bodies (Unit {0}) b
+  housed_bodies : (b : Tree → Frame → Run) → StaysHoused told b → Bodies (asked_by told) b
   housed_bodies b h c y t inner placed housed = record {
     by = λ w p s.
-        let is : InPlace c (y tt) t inner w = record { placed = placed; housed = housed tt; fits = p.fits; sight = p.sees tt; stored = stored_of (Unit {0}) w s; world = housed_of (Unit {0}) w s tt } in
-        let o : StoredOut c w (b t inner w) × HousedOut w (b t inner w) = h c (y tt) t inner w is in
-        record { leads = record { store = o.0.leads; rooms = λ g. o.1.stay }; good = good_of (Unit {0}) (world_of (b t inner w)) o.0.stored (λ g. o.1.housed); placed = o.0.placed };
+        let is : InPlace told c (y tt) t inner w = record { placed = placed; housed = housed tt; fits = p.fits; sight = p.sees tt; stored = stored_of (asked_by told) w s; world = housed_of (asked_by told) w s tt } in
+        let o : StoredOut c w (b t inner w) × HousedOut told w (b t inner w) = h c (y tt) t inner w is in
+        record { leads = record { store = o.0.leads; rooms = λ g. o.1.stay }; good = good_of (asked_by told) (world_of (b t inner w)) o.0.stored (λ g. o.1.housed); placed = o.0.placed };
   }
 
-  pub run_houses : (fuel : ℕ) (b : Tree → Frame → Run) → StaysHoused b → StaysHoused (run files fuel b)
-  run_houses fuel b h c s t frame w p = housed_in c s t frame w _ (keep_run (Unit {0}) files are (λ g. held) fuel b (housed_bodies b h) c (λ g. s) t frame p.placed (λ g. p.housed)) p
+  pub run_houses : (fuel : ℕ) (b : Tree → Frame → Run) → StaysHoused told b → StaysHoused told (run files fuel b)
+  run_houses fuel b h c s t frame w p = housed_in c s t frame w _ (keep_run (asked_by told) files are (λ g. held) fuel b (housed_bodies b h) c (λ g. s) t frame p.placed (λ g. p.housed)) p
 
-  pub evaluate_houses : StaysHoused (evaluate files)
-  evaluate_houses c s t frame w p = housed_in c s t frame w _ (keep_evaluate (Unit {0}) files are (λ g. held) c (λ g. s) t frame p.placed (λ g. p.housed)) p
+  pub evaluate_houses : StaysHoused told (evaluate files)
+  evaluate_houses c s t frame w p = housed_in c s t frame w _ (keep_evaluate (asked_by told) files are (λ g. held) c (λ g. s) t frame p.placed (λ g. p.housed)) p

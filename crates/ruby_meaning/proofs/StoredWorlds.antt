@@ -10,9 +10,9 @@ use Rattle.ruby_meaning.specs.Stored.{IsClass, BodyIs, RowsAre, ClassIs, EachCod
 use Rattle.ruby_meaning.specs.Housed.{CodeHoused, ClosureHoused, WorldHoused}
 use Rattle.ruby_meaning.proofs.Leading.{all_stay, stay_on}
 use Rattle.ruby_meaning.proofs.StoreLeading.{less_on, store_same, store_on, stays_class}
-use Rattle.ruby_meaning.proofs.StoredStores.{GoodCode, GoodClosure, closures_on, StoreKeeps, keeps_same}
+use Rattle.ruby_meaning.proofs.StoredStores.{Asked, GoodCode, GoodClosure, closures_on, StoreKeeps, keeps_same}
 
-pub record Good (asked : Type 0) (w : World) : Type 0 where
+pub record Good (asked : Asked) (w : World) : Type 0 where
   pub graph : IsGraph w.objects
   pub object : IsClass w.objects object_class
   pub there : features < length w.objects
@@ -22,25 +22,25 @@ pub record Good (asked : Type 0) (w : World) : Type 0 where
 
 -- Both as one.
 
-module _ (asked : Type 0) (s : Objects) where
-  body_both : (b : MethodBody) → BodyIs (CodeStored s) b → (asked → BodyIs CodeHoused b) → BodyIs (GoodCode asked s) b
+module _ (asked : Asked) (s : Objects) where
+  body_both : (b : MethodBody) → BodyIs (CodeStored s) b → (asked.is → BodyIs (CodeHoused asked.told) b) → BodyIs (GoodCode asked s) b
   body_both (written code) h k = record { stored = h; housed = k }
   body_both (native n) h k = tt
   body_both (reader x) h k = tt
   body_both (writer x) h k = tt
 
-  rows_both : (rs : List MethodRow) → RowsAre (CodeStored s) rs → (asked → RowsAre CodeHoused rs) → RowsAre (GoodCode asked s) rs
+  rows_both : (rs : List MethodRow) → RowsAre (CodeStored s) rs → (asked.is → RowsAre (CodeHoused asked.told) rs) → RowsAre (GoodCode asked s) rs
   rows_both [] h k = tt
   rows_both (r ∷ rs) h k = (body_both r.body h.0 (λ g. (k g).0), rows_both rs h.1 (λ g. (k g).1))
 
-  class_both : (c : Class) → ClassIs (CodeStored s) c → (asked → ClassIs CodeHoused c) → ClassIs (GoodCode asked s) c
+  class_both : (c : Class) → ClassIs (CodeStored s) c → (asked.is → ClassIs (CodeHoused asked.told) c) → ClassIs (GoodCode asked s) c
   class_both c h k = (rows_both c.methods h.0 (λ g. (k g).0), rows_both c.class_methods h.1 (λ g. (k g).1))
 
-  closures_both : (es : List Environment) (all : List Closure) → EachClosure (ClosureStored s) all → (asked → EachClosure (ClosureHoused es) all) → EachClosure (GoodClosure asked s es) all
+  closures_both : (es : List Environment) (all : List Closure) → EachClosure (ClosureStored s) all → (asked.is → EachClosure (ClosureHoused asked.told es) all) → EachClosure (GoodClosure asked s es) all
   closures_both es [] h k = tt
   closures_both es (d ∷ all) h k = (record { stored = h.0; housed = λ g. (k g).0 }, closures_both es all h.1 (λ g. (k g).1))
 
-pub good_of : (asked : Type 0) (w : World) → IsStored w → (asked → WorldHoused w) → Good asked w
+pub good_of : (asked : Asked) (w : World) → IsStored w → (asked.is → WorldHoused asked.told w) → Good asked w
 good_of asked w h k = record {
   graph = h.graph;
   object = h.object;
@@ -70,7 +70,7 @@ closures_as : (P Q : Closure → Type 0) → ((d : Closure) → P d → Q d) →
 closures_as P Q f [] h = tt
 closures_as P Q f (d ∷ all) h = (f d h.0, closures_as P Q f all h.1)
 
-pub stored_of : (asked : Type 0) (w : World) → Good asked w → IsStored w
+pub stored_of : (asked : Asked) (w : World) → Good asked w → IsStored w
 stored_of asked w h = record {
   graph = h.graph;
   object = h.object;
@@ -80,18 +80,18 @@ stored_of asked w h = record {
   closures = closures_as (GoodClosure asked w.objects w.environments) (ClosureStored w.objects) (λ d x. x.stored) w.closures h.closures;
 }
 
-pub housed_of : (asked : Type 0) (w : World) → Good asked w → asked → WorldHoused w
+pub housed_of : (asked : Asked) (w : World) → Good asked w → asked.is → WorldHoused asked.told w
 housed_of asked w h g = record {
-  rows = λ n. class_as (GoodCode asked w.objects) CodeHoused (λ code x. x.housed g) (class_at w.objects n) (h.rows n);
-  closures = closures_as (GoodClosure asked w.objects w.environments) (ClosureHoused w.environments) (λ d x. x.housed g) w.closures h.closures;
+  rows = λ n. class_as (GoodCode asked w.objects) (CodeHoused asked.told) (λ code x. x.housed g) (class_at w.objects n) (h.rows n);
+  closures = closures_as (GoodClosure asked w.objects w.environments) (ClosureHoused asked.told w.environments) (λ d x. x.housed g) w.closures h.closures;
 }
 
 -- What a world goes on to: what was known of classes stays, and where it is asked the environments stay.
-pub record Onward (asked : Type 0) (w z : World) : Type 0 where
+pub record Onward (asked : Asked) (w z : World) : Type 0 where
   pub store : StoreLeads w.objects z.objects
-  pub rooms : asked → EnvironmentsStay w.environments z.environments
+  pub rooms : asked.is → EnvironmentsStay w.environments z.environments
 
-module _ (asked : Type 0) where
+module _ (asked : Asked) where
   pub onward_same : (w : World) → Onward asked w w
   onward_same w = record { store = store_same w.objects; rooms = λ g. all_stay w.environments }
 
@@ -115,7 +115,7 @@ module _ (asked : Type 0) where
   }
 
   -- the same closures
-  pub moves_by : (w z : World) → StoreKeeps asked w.objects z.objects → (asked → EnvironmentsStay w.environments z.environments) → z.closures ≡ w.closures → Good asked w → Moves w z
+  pub moves_by : (w z : World) → StoreKeeps asked w.objects z.objects → (asked.is → EnvironmentsStay w.environments z.environments) → z.closures ≡ w.closures → Good asked w → Moves w z
   moves_by w z l rooms same s = record {
     leads = record { store = l.leads; rooms = rooms };
     good = good_on w z l (subst (λ all. EachClosure (GoodClosure asked z.objects z.environments) all) (sym same) (closures_on asked w.objects z.objects w.environments z.environments l.leads rooms w.closures s.closures)) s;
@@ -126,7 +126,7 @@ module _ (asked : Type 0) where
   moves_objects w z l rooms same s = moves_by w z l (λ g. subst (EnvironmentsStay w.environments) (sym rooms) (all_stay w.environments)) same s
 
   -- the same objects
-  pub moves_rooms : (w z : World) → z.objects ≡ w.objects → (asked → EnvironmentsStay w.environments z.environments) → z.closures ≡ w.closures → Good asked w → Moves w z
+  pub moves_rooms : (w z : World) → z.objects ≡ w.objects → (asked.is → EnvironmentsStay w.environments z.environments) → z.closures ≡ w.closures → Good asked w → Moves w z
   moves_rooms w z e rooms same s = moves_by w z (subst (λ t. StoreKeeps asked w.objects t) (sym e) (keeps_same asked w.objects)) rooms same s
 
   -- the same objects, environments and closures

@@ -27,10 +27,10 @@ ghost use Rattle.ruby_meaning.specs.FilesOf.{DataReader, IsRubyFile, files_of};
 ghost use Rattle.ruby_meaning.specs.ClassGraph.{above_in, IsGraph, StoreLeads};
 ghost use Rattle.reference_laws.specs.Placed.{home_of, IsPlaced};
 ghost use Rattle.ruby_meaning.specs.Stored.{IsClass, AreClasses, class_of_place, CodeStored, StoredIn, ClosureStored, IsStored, FrameFits, PlacedOut, StoredOut, StaysStored, ArePlaced, EndsAsProgram};
-ghost use Rattle.ruby_meaning.specs.Housed.{CodeHoused, MadeIn, ClosureHoused, WorldHoused, HousedOut, StandsFrom, InPlace, StaysHoused, AreHoused};
+ghost use Rattle.ruby_meaning.specs.Housed.{source_of, CodeHoused, MadeIn, ClosureHoused, WorldHoused, HousedOut, StandsFrom, InPlace, StaysHoused, AreHoused};
 ghost use Rattle.ruby_meaning.specs.RunLaws.{GainsNone, loop_turn, rescue_turn, last_of, Allowed, EndsOutside};
 ghost use Rattle.ruby_meaning.specs.Laws.{names_in, Grows, IsSound, EnvironmentsStay, ClosuresStay, given, given_out, IsOver, given_program, HasEnded};
-ghost use Rattle.ruby_meaning.specs.Levels.{Scopes, Sight, file_sight, body_sight, block_sight, IsHoused};
+ghost use Rattle.ruby_meaning.specs.Levels.{Scopes, Sight, file_sight, body_sight, block_sight, Telling, Told, IsHoused};
 ghost use Rattle.ruby_meaning.specs.InSight.{HaveNames, HasScopes, InSight};
 
 /// What each node does, as the table of nodes reads it, at any fuel and for any meaning of bodies;
@@ -166,11 +166,11 @@ pub fn classes_have_no_cycle()
 /// and housed; and what follows a run in its frame is in place as it was.
 pub fn frames_are_in_sight()
     // One step, whatever its bodies do where a tree is not in place.
-    ensures step { (files : Files) → ArePlaced files → AreHoused files → (fuel : ℕ) (b : Tree → Frame → Run) → StaysHoused b → StaysHoused (run files fuel b) }
-    ensures stays { (files : Files) → ArePlaced files → AreHoused files → StaysHoused (evaluate files) }
-    ensures follows { (c : Around) (s : Sight) (t : Tree) (frame : Frame) (w : World) → InPlace c s t frame w → (z : World) → StoreLeads w.objects z.objects → EnvironmentsStay w.environments z.environments → IsStored z → WorldHoused z → InPlace c s t frame z }
-    ensures start { (p : Program) → WorldHoused (start_world p) }
-    ensures program { (files : Files) → ArePlaced files → AreHoused files → (prelude : Tree) → IsPlaced (at_home file) prelude → IsHoused (file_sight prelude) prelude → (p : Program) → WorldHoused (world_of (program_run files prelude p (start_world p))) }
+    ensures step { (told : Telling) (files : Files) → ArePlaced files → AreHoused told files → (fuel : ℕ) (b : Tree → Frame → Run) → StaysHoused told b → StaysHoused told (run files fuel b) }
+    ensures stays { (told : Telling) (files : Files) → ArePlaced files → AreHoused told files → StaysHoused told (evaluate files) }
+    ensures follows { (told : Telling) (c : Around) (s : Sight) (t : Tree) (frame : Frame) (w : World) → InPlace told c s t frame w → (z : World) → StoreLeads w.objects z.objects → EnvironmentsStay w.environments z.environments → IsStored z → WorldHoused told z → InPlace told c s t frame z }
+    ensures start { (told : Telling) (p : Program) → WorldHoused told (start_world p) }
+    ensures program { (told : Telling) (files : Files) → ArePlaced files → AreHoused told files → (prelude : Tree) → IsPlaced (at_home file) prelude → IsHoused (told (source_of [] None prelude)) (file_sight prelude) prelude → (p : Program) → WorldHoused told (world_of (program_run files prelude p (start_world p))) }
 {}
 
 /// The frames that a run makes are in place where they begin: that of a method's code, of a block,
@@ -178,28 +178,28 @@ pub fn frames_are_in_sight()
 /// its arguments. The code of a method that is found stands, and so does a block by its number; and
 /// so do the code and the block that a frame in place makes.
 pub fn made_frames_are_in_place()
-    ensures method { (frame : Frame) (line : ℕ) (code : Code) (self : Value) (x : Running) (given : Given) (vs : List Value) (n k : ℕ) (r b : Value) (w : World) → IsStored w → WorldHoused w → CodeStored w.objects code → CodeHoused code → IsClass w.objects (class_of_place x.place) → InPlace (at_home (home_of code.body)) (body_sight code.body) code.body (method_frame frame line code self (next_environment w) x given n) (with_environment None (with_names (bound (params_of code.body) vs k r b) (all_nil code.locals)) w) }
-    ensures block { (frame : Frame) (line : ℕ) (d : Closure) (i : ℕ) (c : Around) (s : Sight) (vs : List Value) (k : ℕ) (r b : Value) (w : World) → IsStored w → WorldHoused w → StoredIn c w.objects d → MadeIn s w.environments d → InPlace (in_block c) (block_sight s d.code.body) d.code.body (block_frame frame line d i (next_environment w)) (with_environment (Some d.environment) (with_names (bound (params_of d.code.body) vs k r b) (all_nil d.code.locals)) w) }
-    ensures class { (frame : Frame) (line : ℕ) (t : Tree) (c : ℕ) (w : World) → IsStored w → WorldHoused w → IsClass w.objects c → AreClasses w.objects frame.code.classes → IsPlaced (at_home placement.in_class) t → IsHoused (body_sight t) t → InPlace (at_home placement.in_class) (body_sight t) t (class_frame frame line t c (next_environment w)) (with_environment None (all_nil (locals_of [] t)) w) }
-    ensures file { (path : Bytes) (load : Option ℕ) (t : Tree) (outside : Option (Bytes × ℕ)) (running calling : List ℕ) (w : World) → IsStored w → WorldHoused w → IsPlaced (at_home file) t → IsHoused (file_sight t) t → InPlace (at_home file) (file_sight t) (file_body t) (file_frame (file_code path load t) (next_environment w) outside running calling) (with_environment None (all_nil (locals_of [] t)) w) }
-    ensures found { (w : World) → IsStored w → WorldHoused w → (x : Bytes) (ps : List Place) (f : Found) (code : Code) → find_in w.objects x ps ≡ Some f → f.body ≡ written code → CodeStored w.objects code × CodeHoused code × IsClass w.objects (class_of_place f.place) }
-    ensures closure { (w : World) → IsStored w → WorldHoused w → (i : ℕ) (d : Closure) → slice_get w.closures i ≡ Some d → ClosureStored w.objects d × ClosureHoused w.environments d }
-    ensures code_made { (c : Around) (frame : Frame) (w : World) (t : Tree) → FrameFits c frame w.objects → IsPlaced (at_home (home_of t)) t → IsHoused (body_sight t) t → CodeStored w.objects (code_of frame t) × CodeHoused (code_of frame t) }
-    ensures block_made { (c : Around) (s : Sight) (frame : Frame) (w : World) (t : Tree) → FrameFits c frame w.objects → InSight s frame w → IsPlaced (in_block c) t → IsHoused (block_sight s t) t → StoredIn c w.objects (closure_here frame t) × MadeIn s w.environments (closure_here frame t) }
+    ensures method { (told : Telling) (frame : Frame) (line : ℕ) (code : Code) (self : Value) (x : Running) (given : Given) (vs : List Value) (n k : ℕ) (r b : Value) (w : World) → IsStored w → WorldHoused told w → CodeStored w.objects code → CodeHoused told code → IsClass w.objects (class_of_place x.place) → InPlace told (at_home (home_of code.body)) (body_sight code.body) code.body (method_frame frame line code self (next_environment w) x given n) (with_environment None (with_names (bound (params_of code.body) vs k r b) (all_nil code.locals)) w) }
+    ensures block { (told : Telling) (frame : Frame) (line : ℕ) (d : Closure) (i : ℕ) (c : Around) (s : Sight) (vs : List Value) (k : ℕ) (r b : Value) (w : World) → IsStored w → WorldHoused told w → StoredIn c w.objects d → MadeIn told s w.environments d → InPlace told (in_block c) (block_sight s d.code.body) d.code.body (block_frame frame line d i (next_environment w)) (with_environment (Some d.environment) (with_names (bound (params_of d.code.body) vs k r b) (all_nil d.code.locals)) w) }
+    ensures class { (told : Telling) (frame : Frame) (line : ℕ) (t : Tree) (c : ℕ) (w : World) → IsStored w → WorldHoused told w → IsClass w.objects c → AreClasses w.objects frame.code.classes → IsPlaced (at_home placement.in_class) t → IsHoused (told frame.code.source) (body_sight t) t → InPlace told (at_home placement.in_class) (body_sight t) t (class_frame frame line t c (next_environment w)) (with_environment None (all_nil (locals_of [] t)) w) }
+    ensures file { (told : Telling) (path : Bytes) (load : Option ℕ) (t : Tree) (outside : Option (Bytes × ℕ)) (running calling : List ℕ) (w : World) → IsStored w → WorldHoused told w → IsPlaced (at_home file) t → IsHoused (told (source_of path load t)) (file_sight t) t → InPlace told (at_home file) (file_sight t) (file_body t) (file_frame (file_code path load t) (next_environment w) outside running calling) (with_environment None (all_nil (locals_of [] t)) w) }
+    ensures found { (told : Telling) (w : World) → IsStored w → WorldHoused told w → (x : Bytes) (ps : List Place) (f : Found) (code : Code) → find_in w.objects x ps ≡ Some f → f.body ≡ written code → CodeStored w.objects code × CodeHoused told code × IsClass w.objects (class_of_place f.place) }
+    ensures closure { (told : Telling) (w : World) → IsStored w → WorldHoused told w → (i : ℕ) (d : Closure) → slice_get w.closures i ≡ Some d → ClosureStored w.objects d × ClosureHoused told w.environments d }
+    ensures code_made { (told : Telling) (c : Around) (frame : Frame) (w : World) (t : Tree) → FrameFits c frame w.objects → IsPlaced (at_home (home_of t)) t → IsHoused (told frame.code.source) (body_sight t) t → Told (told frame.code.source) (body_sight t) t → CodeStored w.objects (code_of frame t) × CodeHoused told (code_of frame t) }
+    ensures block_made { (told : Telling) (c : Around) (s : Sight) (frame : Frame) (w : World) (t : Tree) → FrameFits c frame w.objects → InSight s frame w → IsPlaced (in_block c) t → IsHoused (told frame.code.source) (block_sight s t) t → Told (told frame.code.source) (block_sight s t) t → StoredIn c w.objects (closure_here frame t) × MadeIn told s w.environments (closure_here frame t) }
     // What stands stays where the store leads on and the environments stay.
     ensures code_stays { (code : Code) (w z : World) → StoreLeads w.objects z.objects → CodeStored w.objects code → CodeStored z.objects code }
-    ensures block_stays { (c : Around) (s : Sight) (d : Closure) (w z : World) → StoreLeads w.objects z.objects → EnvironmentsStay w.environments z.environments → StoredIn c w.objects d → MadeIn s w.environments d → StoredIn c z.objects d × MadeIn s z.environments d }
+    ensures block_stays { (told : Telling) (c : Around) (s : Sight) (d : Closure) (w z : World) → StoreLeads w.objects z.objects → EnvironmentsStay w.environments z.environments → StoredIn c w.objects d → MadeIn told s w.environments d → StoredIn c z.objects d × MadeIn told s z.environments d }
 {}
 
 /// So are the frames of parts: of the body of a loop, of a rescue's clauses, of what a rescue or
 /// ensure part runs, and of a call that is given a literal block.
 pub fn part_frames_are_in_place()
-    ensures part { (c : Around) (s : Sight) (t : Tree) (frame : Frame) (w : World) → InPlace c s t frame w → (u : Tree) → IsPlaced c u → IsHoused s u → InPlace c s u frame w }
-    ensures loop_body { (c : Around) (s : Sight) (t : Tree) (frame : Frame) (w : World) → InPlace c s t frame w → (u : Tree) → IsPlaced (in_loop c) u → IsHoused s u → InPlace (in_loop c) s u (in_loop_of frame) w }
-    ensures clauses { (c : Around) (s : Sight) (t : Tree) (frame : Frame) (w : World) → InPlace c s t frame w → (u : Tree) (v : Value) → IsPlaced (in_clause c) u → IsHoused s u → InPlace (in_clause c) s u (handling frame v) w }
-    ensures rescue_part { (c : Around) (s : Sight) (t : Tree) (frame : Frame) (w : World) → InPlace c s t frame w → (u : Tree) (n : ℕ) → IsPlaced c u → IsHoused s u → InPlace c s u (in_sequence n frame) w }
-    ensures ensure_part { (c : Around) (s : Sight) (t : Tree) (frame : Frame) (w : World) → InPlace c s t frame w → (u : Tree) (n : ℕ) → IsPlaced (outside_clause c) u → IsHoused s u → InPlace (outside_clause c) s u (in_sequence n frame) w }
-    ensures calling { (c : Around) (s : Sight) (t : Tree) (frame : Frame) (w : World) → InPlace c s t frame w → (ks : List ℕ) → InPlace c s t (record frame { calling = ks }) w }
+    ensures part { (told : Telling) (c : Around) (s : Sight) (t : Tree) (frame : Frame) (w : World) → InPlace told c s t frame w → (u : Tree) → IsPlaced c u → IsHoused (told frame.code.source) s u → InPlace told c s u frame w }
+    ensures loop_body { (told : Telling) (c : Around) (s : Sight) (t : Tree) (frame : Frame) (w : World) → InPlace told c s t frame w → (u : Tree) → IsPlaced (in_loop c) u → IsHoused (told frame.code.source) s u → InPlace told (in_loop c) s u (in_loop_of frame) w }
+    ensures clauses { (told : Telling) (c : Around) (s : Sight) (t : Tree) (frame : Frame) (w : World) → InPlace told c s t frame w → (u : Tree) (v : Value) → IsPlaced (in_clause c) u → IsHoused (told frame.code.source) s u → InPlace told (in_clause c) s u (handling frame v) w }
+    ensures rescue_part { (told : Telling) (c : Around) (s : Sight) (t : Tree) (frame : Frame) (w : World) → InPlace told c s t frame w → (u : Tree) (n : ℕ) → IsPlaced c u → IsHoused (told frame.code.source) s u → InPlace told c s u (in_sequence n frame) w }
+    ensures ensure_part { (told : Telling) (c : Around) (s : Sight) (t : Tree) (frame : Frame) (w : World) → InPlace told c s t frame w → (u : Tree) (n : ℕ) → IsPlaced (outside_clause c) u → IsHoused (told frame.code.source) s u → InPlace told (outside_clause c) s u (in_sequence n frame) w }
+    ensures calling { (told : Telling) (c : Around) (s : Sight) (t : Tree) (frame : Frame) (w : World) → InPlace told c s t frame w → (ks : List ℕ) → InPlace told c s t (record frame { calling = ks }) w }
 {}
 
 /// Each change of a world that a run makes keeps what stands in it: other turns, cells, depth,
@@ -208,19 +208,19 @@ pub fn part_frames_are_in_place()
 /// in place makes; and what natives, loads and raises do to the store. So does each run of a tree
 /// that is in place, and what is in place stays so.
 pub fn changes_keep_what_stands()
-    ensures same { (w : World) → IsStored w → WorldHoused w → (z : World) → z.objects ≡ w.objects → z.environments ≡ w.environments → z.closures ≡ w.closures → StandsFrom w z }
-    ensures on { (w y z : World) → StandsFrom w y → StandsFrom y z → StandsFrom w z }
-    ensures object { (w : World) → IsStored w → WorldHoused w → (o : Object) → is_class_or_module o.kind ≡ false → StandsFrom w (with_object o w) }
-    ensures class { (w : World) → IsStored w → WorldHoused w → (c : Class) → c.methods ≡ [] → c.class_methods ≡ [] → ((p : ℕ) → is_one_of p (above_in (class_or_module c)) ≡ true → IsClass w.objects p) → StandsFrom w (with_object (new_object (class_or_module c)) w) }
-    ensures environment { (w : World) → IsStored w → WorldHoused w → (parent : Option ℕ) (locals : List (Bytes × Value)) → StandsFrom w (with_environment parent locals w) }
-    ensures local { (w : World) → IsStored w → WorldHoused w → (frame : Frame) (x : Bytes) (v : Value) → StandsFrom w (set_local frame x v w) }
-    ensures closure { (w : World) → IsStored w → WorldHoused w → (c : Around) (s : Sight) (d : Closure) → StoredIn c w.objects d → MadeIn s w.environments d → StandsFrom w (with_closure d w) }
-    ensures row { (w : World) → IsStored w → WorldHoused w → (n : ℕ) (x : Bytes) (code : Code) → IsClass w.objects n → CodeStored w.objects code → CodeHoused code → StandsFrom w (with_row n (record { name = x; body = written code }) w) }
-    ensures class_row { (w : World) → IsStored w → WorldHoused w → (n : ℕ) (x : Bytes) (code : Code) → IsClass w.objects n → CodeStored w.objects code → CodeHoused code → StandsFrom w (with_class_row n (record { name = x; body = written code }) w) }
-    ensures constant { (w : World) → IsStored w → WorldHoused w → (n : ℕ) (x : Bytes) (v : Value) → IsClass w.objects n → StandsFrom w (with_constant n x v w) }
-    ensures feature { (w : World) → IsStored w → WorldHoused w → (n : ℕ) → StandsFrom w (with_feature n w) }
-    ensures thrown { (w : World) → IsStored w → WorldHoused w → (p : Option (Bytes × ℕ)) (v : Value) → StandsFrom w (thrown p v w) }
-    ensures native { (w : World) → IsStored w → WorldHoused w → (n : Native) (self : Value) (vs : List Value) (cells : ℕ) (store : Objects) (v : Value) → native_answer n w.objects self vs ≡ itself (gives cells store v) → StandsFrom w (with_objects store w) }
-    ensures run { (c : Around) (w : World) (o : Outcome) → StoredOut c w o → HousedOut w o → StandsFrom w (world_of o) }
-    ensures in_place { (c : Around) (s : Sight) (t : Tree) (frame : Frame) (w z : World) → InPlace c s t frame w → StandsFrom w z → InPlace c s t frame z }
+    ensures same { (told : Telling) (w : World) → IsStored w → WorldHoused told w → (z : World) → z.objects ≡ w.objects → z.environments ≡ w.environments → z.closures ≡ w.closures → StandsFrom told w z }
+    ensures on { (told : Telling) (w y z : World) → StandsFrom told w y → StandsFrom told y z → StandsFrom told w z }
+    ensures object { (told : Telling) (w : World) → IsStored w → WorldHoused told w → (o : Object) → is_class_or_module o.kind ≡ false → StandsFrom told w (with_object o w) }
+    ensures class { (told : Telling) (w : World) → IsStored w → WorldHoused told w → (c : Class) → c.methods ≡ [] → c.class_methods ≡ [] → ((p : ℕ) → is_one_of p (above_in (class_or_module c)) ≡ true → IsClass w.objects p) → StandsFrom told w (with_object (new_object (class_or_module c)) w) }
+    ensures environment { (told : Telling) (w : World) → IsStored w → WorldHoused told w → (parent : Option ℕ) (locals : List (Bytes × Value)) → StandsFrom told w (with_environment parent locals w) }
+    ensures local { (told : Telling) (w : World) → IsStored w → WorldHoused told w → (frame : Frame) (x : Bytes) (v : Value) → StandsFrom told w (set_local frame x v w) }
+    ensures closure { (told : Telling) (w : World) → IsStored w → WorldHoused told w → (c : Around) (s : Sight) (d : Closure) → StoredIn c w.objects d → MadeIn told s w.environments d → StandsFrom told w (with_closure d w) }
+    ensures row { (told : Telling) (w : World) → IsStored w → WorldHoused told w → (n : ℕ) (x : Bytes) (code : Code) → IsClass w.objects n → CodeStored w.objects code → CodeHoused told code → StandsFrom told w (with_row n (record { name = x; body = written code }) w) }
+    ensures class_row { (told : Telling) (w : World) → IsStored w → WorldHoused told w → (n : ℕ) (x : Bytes) (code : Code) → IsClass w.objects n → CodeStored w.objects code → CodeHoused told code → StandsFrom told w (with_class_row n (record { name = x; body = written code }) w) }
+    ensures constant { (told : Telling) (w : World) → IsStored w → WorldHoused told w → (n : ℕ) (x : Bytes) (v : Value) → IsClass w.objects n → StandsFrom told w (with_constant n x v w) }
+    ensures feature { (told : Telling) (w : World) → IsStored w → WorldHoused told w → (n : ℕ) → StandsFrom told w (with_feature n w) }
+    ensures thrown { (told : Telling) (w : World) → IsStored w → WorldHoused told w → (p : Option (Bytes × ℕ)) (v : Value) → StandsFrom told w (thrown p v w) }
+    ensures native { (told : Telling) (w : World) → IsStored w → WorldHoused told w → (n : Native) (self : Value) (vs : List Value) (cells : ℕ) (store : Objects) (v : Value) → native_answer n w.objects self vs ≡ itself (gives cells store v) → StandsFrom told w (with_objects store w) }
+    ensures run { (told : Telling) (c : Around) (w : World) (o : Outcome) → StoredOut c w o → HousedOut told w o → StandsFrom told w (world_of o) }
+    ensures in_place { (told : Telling) (c : Around) (s : Sight) (t : Tree) (frame : Frame) (w z : World) → InPlace told c s t frame w → StandsFrom told w z → InPlace told c s t frame z }
 {}

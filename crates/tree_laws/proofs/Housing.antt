@@ -1,6 +1,6 @@
 -- What is said of a part of the grammar: where the locals before it are held and what it sets is, too, it is housed, and the locals behind it
 -- are held.
-use Rattle.std.proofs.Common.{◌≡◌, ◌∙◌, ℕ, ◌^◌, Bool, true, false, cond, ◌||◌, if◌then◌else◌, List, [], ◌∷◌, ◌++◌, Some, refl, sym, ap}
+use Rattle.std.proofs.Common.{◌≡◌, ◌∙◌, ℕ, ◌^◌, Bool, true, false, cond, ◌||◌, if◌then◌else◌, List, [], ◌∷◌, ◌++◌, Some, refl, sym, ap, None}
 use Rattle.std.specs.Prelude.{⊤}
 use Rattle.std.proofs.lemmas.List.Folds.{list_any-append}
 use Rattle.ruby_lexer.specs.Bytes.{Bytes, same, is_in}
@@ -28,31 +28,31 @@ pub record Housing (s : List Bytes) (L : Type 0) (K H : Sight → Type 0) (z : L
   pub is : (c : Sight) → Sound c → NamesHeld c s → K c → H c × NamesHeld c z
 
 abbrev pub HousedTree : List Bytes → Tree → List Bytes → Type 0
-HousedTree s t z = Housing s (Shaped t) (λ c. Known top c t) (λ c. IsHoused c t) z
+HousedTree s t z = Housing s (Shaped t) (λ c. Known top c t) (λ c. IsHoused None c t) z
 
 abbrev pub HousedTrees : List Bytes → Trees → List Bytes → Type 0
-HousedTrees s ts z = Housing s (TreesShaped ts) (λ c. TreesKnown top c ts) (λ c. TreesHoused c ts) z
+HousedTrees s ts z = Housing s (TreesShaped ts) (λ c. TreesKnown top c ts) (λ c. TreesHoused None c ts) z
 
 abbrev pub HousedOther : List Bytes → Other → List Bytes → Type 0
-HousedOther s v z = Housing s (OtherShaped v) (λ c. OtherKnown top c v) (λ c. OtherHoused c v) z
+HousedOther s v z = Housing s (OtherShaped v) (λ c. OtherKnown top c v) (λ c. OtherHoused None c v) z
 
 abbrev pub HousedBlock : List Bytes → Other → List Bytes → Type 0
-HousedBlock s v z = Housing s (BlockShaped v) (λ c. BlockKnown top v) (λ c. BlockHoused c v) z
+HousedBlock s v z = Housing s (BlockShaped v) (λ c. BlockKnown top v) (λ c. BlockHoused None c v) z
 
 abbrev pub HousedPairs : List Bytes → Pairs → List Bytes → Type 0
-HousedPairs s ps z = Housing s (PairsShaped ps) (λ c. PairsKnown top c ps) (λ c. PairsHoused c ps) z
+HousedPairs s ps z = Housing s (PairsShaped ps) (λ c. PairsKnown top c ps) (λ c. PairsHoused None c ps) z
 
 abbrev pub HousedPieces : List Bytes → Pieces → List Bytes → Type 0
-HousedPieces s ps z = Housing s (PiecesShaped ps) (λ c. PiecesKnown top c ps) (λ c. PiecesHoused c ps) z
+HousedPieces s ps z = Housing s (PiecesShaped ps) (λ c. PiecesKnown top c ps) (λ c. PiecesHoused None c ps) z
 
 abbrev pub HousedWhens : List Bytes → Whens → List Bytes → Type 0
-HousedWhens s ws z = Housing s (WhensShaped ws) (λ c. WhensKnown top c ws) (λ c. WhensHoused c ws) z
+HousedWhens s ws z = Housing s (WhensShaped ws) (λ c. WhensKnown top c ws) (λ c. WhensHoused None c ws) z
 
 abbrev pub HousedClauses : List Bytes → Rescues → List Bytes → Type 0
-HousedClauses s rs z = Housing s (ClausesShaped rs) (λ c. ClausesKnown top c rs) (λ c. ClausesHoused c rs) z
+HousedClauses s rs z = Housing s (ClausesShaped rs) (λ c. ClausesKnown top c rs) (λ c. ClausesHoused None c rs) z
 
 abbrev pub HousedParams : List Bytes → Params → List Bytes → Type 0
-HousedParams s ps z = Housing s (ParamsShaped ps) (λ c. ParamsKnown top c ps) (λ c. ParamsHoused c ps) z
+HousedParams s ps z = Housing s (ParamsShaped ps) (λ c. ParamsKnown top c ps) (λ c. ParamsHoused None c ps) z
 
 pub still : {s : List Bytes} → Housing s ⊤ (λ c. ⊤) (λ c. ⊤) s
 still = record { shape = tt; is = λ c o e k. (tt, e) }
@@ -93,7 +93,7 @@ goal_housed (to_constant x) s = still
 pub local_housed : {s : List Bytes} (x : Bytes) → is_in x s ≡ true → Housing s ⊤ (λ c. ⊤) (λ c. Held c x) s
 local_housed x h = record { shape = tt; is = λ c o e k. (e x h, e) }
 
-pub read_housed : (g : Goal) (s : Scope) → Housing (declared g s).locals (FormShaped (read_form g)) (λ c. FormKnown top c (read_form g)) (λ c. FormHoused c (read_form g)) (declared g s).locals
+pub read_housed : (g : Goal) (s : Scope) → Housing (declared g s).locals (FormShaped (read_form g)) (λ c. FormKnown top c (read_form g)) (λ c. FormHoused None c (read_form g)) (declared g s).locals
 read_housed (to_local x) s = local_housed x (or_left (same x x) (is_in x s.locals) (itself x))
 read_housed (to_instance x) s = still
 read_housed (to_global x) s = still
@@ -101,18 +101,18 @@ read_housed (to_constant x) s = still
 
 -- Parts that the tree does not have.
 
-pub without_block : {s y z : List Bytes} {L : Type 0} {K H : Sight → Type 0} (v b : Other) → (if is_there v then true else is_there b) ≡ false → Housing s (BlockShaped b) (λ c. BlockKnown top b) (λ c. BlockHoused c b) y → Housing y L K H z → Housing s L K H z
+pub without_block : {s y z : List Bytes} {L : Type 0} {K H : Sight → Type 0} (v b : Other) → (if is_there v then true else is_there b) ≡ false → Housing s (BlockShaped b) (λ c. BlockKnown top b) (λ c. BlockHoused None c b) y → Housing y L K H z → Housing s L K H z
 without_block without without h a b = record { shape = b.shape; is = λ c o e k. b.is c o (a.is c o e tt).1 k }
 without_block (with t) v h a b = absurd cc
 without_block without (with t) h a b = absurd cc
 
 pub alone_given : {s y x z : List Bytes} {L : Type 0} {K H : Sight → Type 0} (v b : Other) → (if is_there v then true else is_there b) ≡ false →
-    Housing s L K H y → Housing y (OtherShaped v) (λ c. OtherKnown top c v) (λ c. OtherHoused c v) x → Housing x (BlockShaped b) (λ c. BlockKnown top b) (λ c. BlockHoused c b) z → Housing s L K H z
+    Housing s L K H y → Housing y (OtherShaped v) (λ c. OtherKnown top c v) (λ c. OtherHoused None c v) x → Housing x (BlockShaped b) (λ c. BlockKnown top b) (λ c. BlockHoused None c b) z → Housing s L K H z
 alone_given without without h a d b = record { shape = a.shape; is = λ c o e k. let m = a.is c o e k in (m.0, (b.is c o (d.is c o m.1 tt).1 tt).1) }
 alone_given (with t) v h a d b = absurd cc
 alone_given without (with t) h a d b = absurd cc
 
-pub symbol_gone : {s z : List Bytes} (a : Tree) (m : Bytes) → symbol_of a ≡ Some m → Housing s (Shaped a) (λ c. Known top c a) (λ c. IsHoused c a) z → Housing s ⊤ (λ c. ⊤) (λ c. ⊤) z
+pub symbol_gone : {s z : List Bytes} (a : Tree) (m : Bytes) → symbol_of a ≡ Some m → Housing s (Shaped a) (λ c. Known top c a) (λ c. IsHoused None c a) z → Housing s ⊤ (λ c. ⊤) (λ c. ⊤) z
 symbol_gone (at o (symbol f)) m h a = record { shape = tt; is = λ c o e k. (tt, (a.is c o e tt).1) }
 symbol_gone (at o f) m h a = absurd cc
 
@@ -184,13 +184,13 @@ block_housed o ps a h i =
           let seen = names_seen c b in
           let around = so.seen (place_of b) in
           let sets = locals_held b seen c.scopes around in
-          ((n.is (block_sight c b) (is_sound b seen (locals_of seen b) c.scopes n.shape k sets around) (λ x j. or_right (is_in x (locals_of seen b)) (is_held x c.scopes) (e x j)) (all_known b seen (locals_of seen b) c.scopes n.shape k sets around)).0, e);
+          (((n.is (block_sight c b) (is_sound b seen (locals_of seen b) c.scopes n.shape k sets around) (λ x j. or_right (is_in x (locals_of seen b)) (is_held x c.scopes) (e x j)) (all_known b seen (locals_of seen b) c.scopes n.shape k sets around)).0, tt), e);
     }
 
 nothing_seen : (outer : Scopes) (x : Bytes) → is_in x [] ≡ true → is_held x outer ≡ true
 nothing_seen outer x e = absurd cc
 
-pub body_housed : {s y z : List Bytes} (o : SourcePosition) (ps : Params) (a : Tree) → HousedParams [] ps y → HousedTree y a z → Housing s ⊤ (λ c. Absent top (places (at o (body ps a)))) (λ c. IsHoused (body_sight (at o (body ps a))) (at o (body ps a))) s
+pub body_housed : {s y z : List Bytes} (o : SourcePosition) (ps : Params) (a : Tree) → HousedParams [] ps y → HousedTree y a z → Housing s ⊤ (λ c. Absent top (places (at o (body ps a)))) (λ c. IsHoused None (body_sight (at o (body ps a))) (at o (body ps a)) × ⊤) s
 body_housed o ps a h i =
     let b = at o (body ps a) in
     let n = h ⊕ i in
@@ -199,5 +199,5 @@ body_housed o ps a h i =
       is = λ c so e k.
           let around = nothing_seen [] in
           let sets = locals_held b [] [] around in
-          ((n.is (body_sight b) (is_sound b [] (locals_of [] b) [] n.shape k sets around) (λ x j. absurd cc) (all_known b [] (locals_of [] b) [] n.shape k sets around)).0, e);
+          (((n.is (body_sight b) (is_sound b [] (locals_of [] b) [] n.shape k sets around) (λ x j. absurd cc) (all_known b [] (locals_of [] b) [] n.shape k sets around)).0, tt), e);
     }

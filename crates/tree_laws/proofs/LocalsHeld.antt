@@ -1,5 +1,5 @@
 -- Each local that is read or set in a text's tree is held where it stands.
-use Rattle.std.proofs.Common.{[], arith}
+use Rattle.std.proofs.Common.{[], arith, None}
 use Rattle.ruby_lexer.specs.Bytes.{Bytes}
 use Rattle.ruby_lexer.specs.Tokens.{before_end}
 use Rattle.ruby_tree.specs.Tree.{Tree}
@@ -20,7 +20,7 @@ module _ (source : Bytes) (t : Tree) (R : Reads source t) where
   far_from_file : Absent top (places (file_body t))
   far_from_file = record { holds = omega (arith, far.holds) }
 
-  pub housed : IsHoused (file_sight t) t
+  pub housed : IsHoused None (file_sight t) t
   housed =
       let h : HousedTree [] t R.derived.behind.locals = (houses (before_end source) R.derived.depth).stmts R.derived.derived in
       let b = file_body t in

@@ -4,7 +4,7 @@
 
 pub mod runs;
 
-ghost use Rattle.std.specs.Prelude.{◌<◌, ◌^◌, ℕ, List, nat_eq, length, false};
+ghost use Rattle.std.specs.Prelude.{◌<◌, ◌^◌, ℕ, List, nat_eq, length, false, None};
 ghost use Rattle.std.specs.List.{IsDistinct, AllByRecursion};
 ghost use Rattle.ruby_lexer.specs.Bytes.{Bytes};
 ghost use Rattle.ruby_lexer.specs.Tokens.{before_end};
@@ -29,7 +29,7 @@ pub fn sequences_begin_apart()
 /// the body that it stands in, or by one outward. So are the parameters that a `super` without
 /// arguments hands on.
 pub fn locals_are_held()
-    ensures held { (source : Bytes) (t : Tree) → Reads source t → IsHoused (file_sight t) t }
+    ensures held { (source : Bytes) (t : Tree) → Reads source t → IsHoused None (file_sight t) t }
 {}
 
 /// Sequences are numbered in the order of their places: the number of one is less than that of each

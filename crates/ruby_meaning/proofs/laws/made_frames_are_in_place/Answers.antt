@@ -11,8 +11,8 @@ returns c = record {
   file = file_in_place;
   found = found_stands;
   closure = closure_stands;
-  code_made = λ c frame w t fits placed housed. (code_stands frame t w.objects placed fits.classes, code_housed frame t housed);
-  block_made = λ c s frame w t fits sees placed housed. (block_stands c frame t w.objects placed fits, block_made s frame t w housed sees);
+  code_made = λ told c frame w t fits placed housed found. (code_stands frame t w.objects placed fits.classes, code_housed told frame t housed found);
+  block_made = λ told c s frame w t fits sees placed housed found. (block_stands c frame t w.objects placed fits, block_made told s frame t w housed found sees);
   code_stays = λ code w z l h. code_on w.objects z.objects l code h;
-  block_stays = λ c s d w z l stay h k. (closure_on c w.objects z.objects l d h, made_on s w.environments z.environments stay d k);
+  block_stays = λ told c s d w z l stay h k. (closure_on c w.objects z.objects l d h, made_on told s w.environments z.environments stay d k);
 }
