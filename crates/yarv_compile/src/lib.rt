@@ -1,0 +1,2 @@
+//! The compiler: the unit of a program, by the compile table.
+#![tactic(auto)]
