@@ -1,0 +1,2 @@
+mod Reordered
+mod DirectChildren

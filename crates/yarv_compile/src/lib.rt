@@ -1,2 +1,4 @@
 //! The compiler: the unit of a program, by the compile table.
 #![tactic(auto)]
+
+pub mod laws;
