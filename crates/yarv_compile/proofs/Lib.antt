@@ -1,2 +1,4 @@
 mod Reordered
 mod DirectChildren
+mod ByPlaces
+mod ByNumbers

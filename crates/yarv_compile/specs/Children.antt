@@ -1,5 +1,5 @@
 -- The sequences that stand directly in a tree, in the order in which a writer meets them that writes the tree's code from its end to its beginning.
-use Rattle.std.specs.Prelude.{Bool, true, List, [], ◌∷◌, ◌++◌}
+use Rattle.std.specs.Prelude.{ℕ, Bool, true, List, [], ◌∷◌, ◌++◌, map}
 use Rattle.ruby_tree.specs.Names.{Bytes}
 use Rattle.ruby_tree.specs.Tree.{Tree, at, Form, joined, array, hash, range, constant_path, assign, assign_all, assign_attribute, assign_index, operate_attribute, or_attribute, and_attribute, operate_index, or_index, and_index, send, safe_send, yield, super, bare_super, statements, both, either, negated, if_else, while_loop, case_of, case_tests, return_with, break_with, next_with, rescue, ensure, rescue_sequence, ensure_sequence, method, class, module_named, body, Trees, no_more, more, Other, without, with, Pairs, no_pair, pair, Pieces, no_piece, plain_piece, code_piece, Whens, no_when, when, Rescues, no_clause, clause, Params, no_param, required, optional, rest_param, block_param}
 use Rattle.iseq_types.specs.declared.sequences.SeqKind.{SeqKind}
@@ -151,3 +151,7 @@ under l c = compiled_child l c ∷ sequences (inner_of l c) c.tree
 abbrev pub all_under : Where → List Child → List Compiled
 all_under l [] = []
 all_under l (c ∷ cs) = under l c ++ all_under l cs
+
+-- the places of sequences
+abbrev pub places_in : List Compiled → List ℕ
+places_in cs = map (λ c. c.place) cs
