@@ -2,3 +2,5 @@ mod Reordered
 mod DirectChildren
 mod ByPlaces
 mod ByNumbers
+pub mod Alike
+pub mod Entries
