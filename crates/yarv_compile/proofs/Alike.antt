@@ -7,11 +7,13 @@ use Rattle.iseq_types.specs.declared.instructions.Instr.{Instr}
 use Rattle.iseq_types.specs.declared.instructions.Instr.TheVariants.{Pop, Dup, TopN, PutNil, PutSelf, PutObject, PutString, OptGetConstantPath, NewArray, NewHash, NewRange, ConcatStrings, ObjToString, AnyToString, Send, InvokeSuper, InvokeBlock, DefineMethod, DefineClass, CheckMatch, Jump, BranchIf, BranchUnless, BranchNil, Throw, Leave, ExpandArray}
 use Rattle.iseq_types.specs.declared.instructions.Literal.TheVariants.{Sym}
 use Rattle.iseq_types.specs.declared.sequences.CatchKind.TheVariants as catches
-use Rattle.ruby_meaning.specs.Locals.{place_of, params_of, names_of_params}
+use Rattle.iseq_types.specs.declared.sequences.SeqKind.{SeqKind}
+use Rattle.ruby_meaning.specs.Locals.{place_of, first_line_of, params_of, names_of_params, locals_of}
 use Rattle.ruby_meaning.specs.Sequences.{sequence_number, count_below}
-use Rattle.code_meaning.specs.Code.{done, op, ahead, part, held, size, finish}
-use Rattle.compile_table.specs.Shapes.{Where, line_or, count, count_pairs, count_pieces, set_local, set_goal, sets, self_flag, receiver_flag, value_flag, bare_flag, plain_send, with_literal, open_end, on_self, throw_by, named, gets, set_by_send, or_set, attribute_read, index_read, turns, shape, form_shape, params_shape, all_shape, rest_shape, args_shape, pairs_shape, pieces_shape, path_shape, receiver_shape, value_shape, other_shape, last_shape, values_shape, patterns_shape, pattern_shape, cases_shape, tests_shape, test_shape, hits_shape, clauses_shape, clause_shape, classes_shape, bodies_shape}
-use Rattle.compile_table.specs.Sequences.{has_optional, entries_from, entries_of}
+use Rattle.ruby_meaning.specs.Levels.{block_sight}
+use Rattle.code_meaning.specs.Code.{done, op, ahead, part, held, size, finish, lines_of, rows_of}
+use Rattle.compile_table.specs.Shapes.{Where, looped, in_rescue, in_ensure, line_or, count, count_pairs, count_pieces, set_local, set_goal, sets, self_flag, receiver_flag, value_flag, bare_flag, plain_send, with_literal, open_end, on_self, throw_by, named, gets, set_by_send, or_set, attribute_read, index_read, turns, shape, form_shape, params_shape, all_shape, rest_shape, args_shape, pairs_shape, pieces_shape, path_shape, receiver_shape, value_shape, other_shape, last_shape, values_shape, patterns_shape, pattern_shape, cases_shape, tests_shape, test_shape, hits_shape, clauses_shape, clause_shape, classes_shape, bodies_shape}
+use Rattle.compile_table.specs.Sequences.{in_body, in_block, count_required, has_optional, has_rest, has_block, entries_from, entries_of, depth_in, body_sequence, part_sequence}
 use Rattle.yarv_compile.specs.Alike.{Alike}
 
 -- Two places in code, of which the first is taken to differ from the second in nothing but the rescue part, the sequence and the places of the
@@ -196,6 +198,49 @@ entries_alike l m a p ps = at_alike (λ x. entries_from x p ps) l m a (entries_s
 
 pub all_entries_alike : (l m : Where) → Alike l m → (ps : Params) → entries_of l ps ≡ entries_of m ps
 all_entries_alike l m a ps = ap (λ x. cond (has_optional ps) x []) (entries_alike l m a 0 ps)
+
+pub body_sequence_alike : (l m : Where) → Alike l m → (x : Bytes) (t : Tree) → body_sequence l x t ≡ body_sequence m x t
+body_sequence_alike l m a x t = λ k. record {
+  name = x;
+  first_line = first_line_of t;
+  locals = locals_of (a.sight k).seen t;
+  required = count_required (params_of t);
+  entries = all_entries_alike l m a (params_of t) k;
+  rest = has_rest (params_of t);
+  block = has_block (params_of t);
+  rows = rows_of 0 0 (shape_alike l m a t k);
+  code = lines_of 0 0 (shape_alike l m a t k);
+}
+
+pub part_sequence_alike : (l m : Where) → Alike l m → (kind : SeqKind) (t : Tree) → part_sequence l kind t ≡ part_sequence m kind t
+part_sequence_alike l m a kind t = λ k. record {
+  name = [];
+  first_line = first_line_of t;
+  locals = [];
+  required = 0;
+  entries = [];
+  rest = false;
+  block = false;
+  rows = rows_of (depth_in kind) 0 (shape_alike l m a t k);
+  code = lines_of (depth_in kind) 0 (shape_alike l m a t k);
+}
+
+-- ---- places that are alike
+
+pub looped_alike : (l m : Where) → Alike l m → Alike (looped l) (looped m)
+looped_alike l m a = record { loop = refl; first = a.first; sight = a.sight; path = a.path; numbers = a.numbers }
+
+pub in_body_alike : (l m : Where) → Alike l m → (t : Tree) → Alike (in_body l t) (in_body m t)
+in_body_alike l m a t = record { loop = refl; first = refl; sight = refl; path = a.path; numbers = a.numbers }
+
+pub in_block_alike : (l m : Where) → Alike l m → (t : Tree) → Alike (in_block l t) (in_block m t)
+in_block_alike l m a t = record { loop = refl; first = refl; sight = ap (λ c. block_sight c t) a.sight; path = a.path; numbers = a.numbers }
+
+pub in_rescue_alike : (l m : Where) → Alike l m → (t : Tree) → Alike (in_rescue l t) (in_rescue m t)
+in_rescue_alike l m a (at s f) = record { loop = a.loop; first = refl; sight = a.sight; path = a.path; numbers = a.numbers }
+
+pub in_ensure_alike : (l m : Where) → Alike l m → (t : Tree) → Alike (in_ensure l t) (in_ensure m t)
+in_ensure_alike l m a (at s f) = record { loop = a.loop; first = refl; sight = a.sight; path = a.path; numbers = a.numbers }
 
 pub elsewhere_alike : (l : Where) (c : Bool) (n : ℕ) → Alike (record l { clause = c; number = n }) l
 elsewhere_alike l c n = record { loop = refl; first = refl; sight = refl; path = refl; numbers = λ p. refl }

@@ -1,7 +1,8 @@
 -- The places at which a body begins, from its end.
 use Rattle.std.proofs.Common.{◌≡◌, ℕ, ◌+◌, ◌-◌, ap, arith, [], ◌∷◌, map}
-use Rattle.ruby_tree.specs.Tree.{Params, no_param, required, optional, rest_param, block_param}
-use Rattle.code_meaning.specs.Code.{done, size, finish}
+use Rattle.ruby_tree.specs.Tree.{SourcePosition, Tree, at, body, Params, no_param, required, optional, rest_param, block_param}
+use Rattle.iseq_types.specs.declared.instructions.Instr.TheVariants.{Leave}
+use Rattle.code_meaning.specs.Code.{Shape, done, op, part, size, finish}
 use Rattle.code_meaning.proofs.Sizes.{finish_size}
 use Rattle.compile_table.specs.Shapes.{Where, shape, params_shape}
 use Rattle.compile_table.specs.Sequences.{entries_from}
@@ -18,3 +19,16 @@ starts_are_entries l n total p (optional x t ps) e =
     λ k. f k ∷ rest k
 starts_are_entries l n total p (rest_param x ps) e = starts_are_entries l n total p ps e
 starts_are_entries l n total p (block_param x ps) e = starts_are_entries l n total p ps e
+
+params_size : (l : Where) (ps : Params) (s : Shape) → size (params_shape l ps s) ≡ size (params_shape l ps done) + size s
+params_size l no_param s = omega arith
+params_size l (required x ps) s = params_size l ps s
+params_size l (optional x t ps) s = let e = params_size l ps s in omega arith
+params_size l (rest_param x ps) s = params_size l ps s
+params_size l (block_param x ps) s = params_size l ps s
+
+pub body_entries : (l : Where) (s : SourcePosition) (ps : Params) (t : Tree) → map (λ q. size (shape l (at s (body ps t))) - q) (starts l (size (shape l t) + 1) ps) ≡ entries_from l 0 ps
+body_entries l s ps t =
+    let e = params_size l ps (part 0 (shape l t) (op l.first Leave done)) in
+    let f : 0 + (size (params_shape l ps done) + (size (shape l t) + 1)) ≡ size (shape l (at s (body ps t))) = omega arith in
+    starts_are_entries l (size (shape l t) + 1) (size (shape l (at s (body ps t)))) 0 ps f
