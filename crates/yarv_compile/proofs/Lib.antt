@@ -1,0 +1,6 @@
+mod Reordered
+mod DirectChildren
+mod ByPlaces
+mod ByNumbers
+pub mod Alike
+pub mod Entries

@@ -1,0 +1,3 @@
+pub mod Children
+pub mod Alike
+pub mod Entries
