@@ -293,11 +293,11 @@ looks_at {h} {c} {d} {n} {m} {s} e g = subst (λ y. Looks h c s y d) e g
 looks_from : {h c c1 d n : ℕ} {s : Shape} → c ≡ c1 → Looks h c1 s n d → Looks h c s n d
 looks_from {h} {c} {c1} {d} {n} {s} e g = subst (λ y. Looks h y s n d) (sym e) g
 
-pattern_size : (l : Where) (line : ℕ) (ts : Trees) (far : ℕ) (s : Shape) → size (pattern_shape l line ts far s) ≡ size (pattern_shape l line ts 0 done) + size s
+pub pattern_size : (l : Where) (line : ℕ) (ts : Trees) (far : ℕ) (s : Shape) → size (pattern_shape l line ts far s) ≡ size (pattern_shape l line ts 0 done) + size s
 pattern_size l line no_more far s = omega arith
 pattern_size l line (more t ts) far s = let e = pattern_size l line ts far s in omega (arith, e)
 
-patterns_size : (l : Where) (line : ℕ) (ws : Whens) (far : ℕ) (s : Shape) → size (patterns_shape l line ws far s) ≡ size (patterns_shape l line ws 0 done) + size s
+pub patterns_size : (l : Where) (line : ℕ) (ws : Whens) (far : ℕ) (s : Shape) → size (patterns_shape l line ws far s) ≡ size (patterns_shape l line ws 0 done) + size s
 patterns_size l line no_when far s = omega arith
 patterns_size l line (when ts t ws) far s =
     let a = pattern_size l line ts (size (patterns_shape l line ws 0 done) + far) (patterns_shape l line ws (far + (size (shape l t) + 2)) s) in
@@ -389,11 +389,11 @@ case_fit h l line a ws o w u v =
 
 -- ---- the same without a value
 
-test_size : (l : Where) (line : ℕ) (ts : Trees) (far : ℕ) (s : Shape) → size (test_shape l line ts far s) ≡ size (test_shape l line ts 0 done) + size s
+pub test_size : (l : Where) (line : ℕ) (ts : Trees) (far : ℕ) (s : Shape) → size (test_shape l line ts far s) ≡ size (test_shape l line ts 0 done) + size s
 test_size l line no_more far s = omega arith
 test_size l line (more t ts) far s = let e = test_size l line ts far s in omega (arith, e)
 
-tests_size : (l : Where) (line : ℕ) (ws : Whens) (far : ℕ) (s : Shape) → size (tests_shape l line ws far s) ≡ size (tests_shape l line ws 0 done) + size s
+pub tests_size : (l : Where) (line : ℕ) (ws : Whens) (far : ℕ) (s : Shape) → size (tests_shape l line ws far s) ≡ size (tests_shape l line ws 0 done) + size s
 tests_size l line no_when far s = omega arith
 tests_size l line (when ts t ws) far s =
     let a = test_size l line ts (size (tests_shape l line ws 0 done) + far) (tests_shape l line ws (far + (size (shape l t) + 1)) s) in
@@ -458,15 +458,15 @@ case_tests_fit h l line ws o u v =
 
 -- ---- the clauses of a rescue
 
-classes_size : (l : Where) (line : ℕ) (ts : Trees) (far : ℕ) (s : Shape) → size (classes_shape l ts line far s) ≡ size (classes_shape l ts line 0 done) + size s
+pub classes_size : (l : Where) (line : ℕ) (ts : Trees) (far : ℕ) (s : Shape) → size (classes_shape l ts line far s) ≡ size (classes_shape l ts line 0 done) + size s
 classes_size l line no_more far s = omega arith
 classes_size l line (more t ts) far s = let e = classes_size l line ts far s in omega (arith, e)
 
-clause_size : (l : Where) (line : ℕ) (ts : Trees) (far : ℕ) (s : Shape) → size (clause_shape l ts line far s) ≡ size (clause_shape l ts line 0 done) + size s
+pub clause_size : (l : Where) (line : ℕ) (ts : Trees) (far : ℕ) (s : Shape) → size (clause_shape l ts line far s) ≡ size (clause_shape l ts line 0 done) + size s
 clause_size l line no_more far s = omega arith
 clause_size l line (more t ts) far s = let e = classes_size l line ts far s in omega (arith, e)
 
-clauses_size : (l : Where) (line : ℕ) (cs : Rescues) (far : ℕ) (s : Shape) → size (clauses_shape l cs line far s) ≡ size (clauses_shape l cs line 0 done) + size s
+pub clauses_size : (l : Where) (line : ℕ) (cs : Rescues) (far : ℕ) (s : Shape) → size (clauses_shape l cs line far s) ≡ size (clauses_shape l cs line 0 done) + size s
 clauses_size l line no_clause far s = omega arith
 clauses_size l line (clause ts x t cs) far s =
     let n = size (named l line x (part 0 (shape l t) (op line Leave done))) in
@@ -534,7 +534,7 @@ named_begins : (h : ℕ) (l : Where) (line : ℕ) (x : Option Bytes) (a s : Shap
 named_begins h l line None a s = omega arith
 named_begins h l line (Some x) a s = refl
 
-named_size : (l : Where) (line : ℕ) (x : Option Bytes) (a s : Shape) → size (named l line x (part 0 a (op line Leave s))) ≡ size (named l line x (part 0 a (op line Leave done))) + size s
+pub named_size : (l : Where) (line : ℕ) (x : Option Bytes) (a s : Shape) → size (named l line x (part 0 a (op line Leave s))) ≡ size (named l line x (part 0 a (op line Leave done))) + size s
 named_size l line None a s = omega arith
 named_size l line (Some x) a s = omega arith
 

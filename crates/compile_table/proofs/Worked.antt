@@ -72,7 +72,7 @@ bodies_row-holds = (refl, refl, refl, refl, refl, refl)
 
 pub block_row-holds : block_row
 unfolding digits is_utf8 chars lib.Utf8.encode
-block_row-holds = (refl, refl)
+block_row-holds = (refl, refl, refl, refl)
 
 pub rescue_row-holds : rescue_row
 unfolding digits is_utf8 chars lib.Utf8.encode

@@ -214,10 +214,16 @@ abbrev pub block_form : Form
 block_form =
     statements (more (at_place 0 (assign (num 1) (to_local (codes "x")))) (more (at_place 7 (send without no_more [] without (codes "f") false (with block_body))) no_more))
 
+-- `super() { 1 }`
+abbrev pub super_form : Form
+super_form = super no_more [] without (with (at_place 9 (body no_param (num 1))))
+
 abbrev pub block_row : Type 0
 block_row =
     (codes_in block_form ≡ (put 1 ∷ Dup ∷ SetLocal 0 0 ∷ Pop ∷ PutSelf ∷ Send (codes "f") 0 [] 1 2 ∷ Leave ∷ []) ∷ (GetLocal 0 1 ∷ Pop ∷ GetLocal 0 0 ∷ Leave ∷ []) ∷ [])
     × (rows_in block_form ≡ row catches.Break 5 6 6 0 0 ∷ [])
+    × (codes_in super_form ≡ (PutSelf ∷ InvokeSuper 0 [] 1 2 ∷ Leave ∷ []) ∷ (put 1 ∷ Leave ∷ []) ∷ [])
+    × (rows_in super_form ≡ row catches.Break 1 2 2 0 0 ∷ [])
 
 -- `begin; 1; rescue A, B => e; raise; rescue; 3; else; 2; end`
 abbrev pub rescue_form : Form
