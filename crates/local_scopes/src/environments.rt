@@ -1,10 +1,10 @@
 //! The environments of the bodies that are open.
-ghost use Rattle.std.specs.Prelude.{◌≡◌, ◌++◌, map, reverse, IfOk};
+ghost use Rattle.std.specs.Prelude.{◌≡◌, ◌≤◌, ◌||◌, ◌++◌, not, map, length, reverse, IfOk, OnOk};
 ghost use Rattle.std.specs.List.{IsDistinct};
 ghost use Rattle.ruby_lexer.specs.Bytes.{is_in, same};
 ghost use Rattle.ruby_tree.specs.Names.{Texts};
 ghost use Rattle.ruby_tree.specs.FirstFault.{param_name};
-ghost use Rattle.ruby_tree.specs.Read.{tree_of, text_of_name};
+ghost use Rattle.ruby_tree.specs.Read.{tree_of};
 ghost use Rattle.ruby_tree.specs.Views.{read_kind, read_params, read_definition};
 ghost use Rattle.ruby_meaning.specs.Locals.{params_in, names_of_params, without_names};
 ghost use Rattle.ruby_meaning.specs.Levels.{level_of, slot_of};
@@ -57,9 +57,9 @@ pub(crate) fn open_body<'a>(
     let mark = mark_in(around, body.place);
     let mut known = Known::new(alloc);
     tree(symbols, &mut known, body)?;
-    let params = params_within(kind, body);
-    let seen = seen_within(kind, around);
-    let locals = own_locals(alloc, symbols, params, known.names(), seen, mark)?;
+    let mut locals = Locals::new(alloc);
+    push_params(&mut locals, symbols, params_of(&body.kind))?;
+    push_names(&mut locals, known.names(), seen_within(kind, around), mark)?;
     Ok(Environment {
         symbols,
         body,
@@ -74,8 +74,8 @@ pub(crate) fn open_body<'a>(
 fn mark_in(around: &[Environment], place: u64) -> usize
     ensures { seen_names result (reverse around.now) ≡ seen_at place (reverse around.now) }
 {
-    match around.last() {
-        Some(environment) => environment.known.known_at(place),
+    match around.split_last() {
+        Some((environment, _)) => environment.known.known_at(place),
         None => 0,
     }
 }
@@ -86,12 +86,13 @@ pub(crate) fn params_within(kind: BodyKind, body: &Node) -> &[Param<Node>]
 {
     match kind {
         BodyKind::File => &[],
-        BodyKind::Home => params_of_kind(&body.kind),
-        BodyKind::Block => params_of_kind(&body.kind),
+        BodyKind::Home => params_of(&body.kind),
+        BodyKind::Block => params_of(&body.kind),
     }
 }
 
-fn params_of_kind(kind: &Kind<Node>) -> &[Param<Node>]
+/// The parameters of a node that is a body.
+fn params_of(kind: &Kind<Node>) -> &[Param<Node>]
     ensures { (texts : Texts) → read_params texts result.now ≡ params_in (read_kind texts kind.now) }
 {
     match kind {
@@ -107,6 +108,7 @@ fn params_of_kind(kind: &Kind<Node>) -> &[Param<Node>]
     }
 }
 
+/// The parameters of a body.
 fn params_of_definition(definition: &Definition<Node>) -> &[Param<Node>]
     ensures { (texts : Texts) → read_params texts result.now ≡ params_in (read_definition texts definition.now) }
 {
@@ -120,7 +122,8 @@ fn params_of_definition(definition: &Definition<Node>) -> &[Param<Node>]
 
 /// Those of the environments around a body of this kind that are in sight within it.
 fn seen_within<'e, 'a>(kind: BodyKind, around: &'e [Environment<'a>]) -> &'e [Environment<'a>]
-    ensures { reverse result.now ≡ visible kind (reverse around.now) }
+    ensures visible { reverse result.now ≡ visible kind (reverse around.now) }
+    ensures fewer { length result.now ≤ length around.now }
 {
     match kind {
         BodyKind::Block => around,
@@ -129,28 +132,43 @@ fn seen_within<'e, 'a>(kind: BodyKind, around: &'e [Environment<'a>]) -> &'e [En
     }
 }
 
-/// The locals of a body: its parameters, and what is gathered but for what it sees around it.
-fn own_locals<'a>(
-    alloc: Global,
+/// The parameters are the first locals.
+fn push_params<'a>(
+    locals: &mut Locals<'a>,
     symbols: &'a SymbolTable,
     params: &[Param<Node>],
-    names: &[&'a [u8]],
-    seen: &[Environment<'a>],
-    mark: usize,
-) -> Result<Locals<'a>, NoMemory>
-    requires { IsDistinct same (map (λ name. name.now) names.now) }
-    ensures { IfOk result (λ locals. locals ≡ names_of_params (read_params symbols.now params.now) ++ without_names (names_of_params (read_params symbols.now params.now) ++ seen_names mark (reverse seen.now)) (map (λ name. name.now) names.now)) }
+) -> Result<(), NoMemory>
+    ensures { OnOk result (locals.new ≡ locals.old ++ names_of_params (read_params symbols.now params.now)) }
 {
-    let mut locals = Locals::new(alloc);
     for param in params {
         locals.push(symbols.text(name_of(param)))?;
     }
+    Ok(())
+}
+
+/// Those of the names are locals too that are no parameters, and that the body does not see around it.
+fn push_names<'a>(
+    locals: &mut Locals<'a>,
+    names: &[&'a [u8]],
+    seen: &[Environment<'a>],
+    mark: usize,
+) -> Result<(), NoMemory>
+    requires { IsDistinct same (map (λ name. name.now) names.now) }
+    ensures { OnOk result (locals.new ≡ locals.old ++ without_names (locals.old ++ seen_names mark (reverse seen.now)) (map (λ name. name.now) names.now)) }
+{
     for name in names {
-        if !locals.contains(name) && !is_seen(seen, mark, name) {
-            locals.push(name)?;
+        if is_new(locals, seen, mark, name) {
+            locals.push(*name)?;
         }
     }
-    Ok(locals)
+    Ok(())
+}
+
+/// Whether the name is none of these locals, and not seen around.
+fn is_new(locals: &Locals, seen: &[Environment], mark: usize, name: &[u8]) -> bool
+    ensures { result ≡ not (is_in name.now locals.now || is_in name.now (seen_names mark (reverse seen.now))) }
+{
+    !locals.contains(name) && !is_seen(seen, mark, name)
 }
 
 /// The name of a parameter.

@@ -1,7 +1,7 @@
 //! Gathers the names of a body.
 ghost use Rattle.std.specs.Prelude.{◌≡◌, ℕ, OnOk};
-ghost use Rattle.ruby_meaning.specs.Locals.{of_tree, of_form, of_block, of_goal, of_goals, of_other, by_place, by_places, place_of, place_of_other};
-ghost use Rattle.ruby_tree.specs.Read.{tree_of, goal_of};
+ghost use Rattle.ruby_meaning.specs.Locals.{of_tree, of_form, of_block, by_place, by_places, place_of};
+ghost use Rattle.ruby_tree.specs.Read.{tree_of};
 ghost use Rattle.ruby_tree.specs.Views.{read_kind, read_collection, read_assignment, read_call, read_control, read_exit, read_handler, read_definition, read_other};
 ghost use Rattle.local_scopes.specs.Gathering.{gathered};
 
@@ -9,13 +9,14 @@ mod lists;
 
 use crate::known::Known;
 use bs_outside::NoMemory;
-use lists::{clauses, other, pairs, params, parts, targets, trees, whens, target};
+use lists::{clauses, other, pairs, params, parts, target, targets, trees, whens};
 use ruby_tree::{
     Assignment, Call, Collection, Control, Definition, Exit, Handler, Kind, Node, SymbolTable,
 };
 
 /// Gathers the names of a part of a body, and notes each block in it. The bodies of blocks, methods and classes are left out.
 #[cycle(gather)]
+#[tactic(auto, using(crate::proofs::Walked::walked, std::proofs::lemmas::Grind::common_steps))]
 pub(crate) fn tree<'a>(
     symbols: &'a SymbolTable,
     known: &mut Known<'a>,
@@ -28,6 +29,7 @@ pub(crate) fn tree<'a>(
 
 /// Of the parts of a node.
 #[cycle(gather)]
+#[tactic(auto, using(crate::proofs::Walked::walked, std::proofs::lemmas::Grind::common_steps))]
 fn kind<'a>(
     symbols: &'a SymbolTable,
     known: &mut Known<'a>,
@@ -50,6 +52,7 @@ fn kind<'a>(
 
 /// Of the elements.
 #[cycle(gather)]
+#[tactic(auto, using(crate::proofs::Walked::walked, std::proofs::lemmas::Grind::common_steps))]
 fn collection<'a>(
     symbols: &'a SymbolTable,
     known: &mut Known<'a>,
@@ -71,6 +74,7 @@ fn collection<'a>(
 
 /// Of what is set: the target comes before the value.
 #[cycle(gather)]
+#[tactic(auto, using(crate::proofs::Walked::walked, std::proofs::lemmas::Grind::common_steps))]
 fn assignment<'a>(
     symbols: &'a SymbolTable,
     known: &mut Known<'a>,
@@ -128,6 +132,7 @@ fn assignment<'a>(
 
 /// Of the receiver, the arguments and the block value. The block is noted.
 #[cycle(gather)]
+#[tactic(auto, using(crate::proofs::Walked::walked, std::proofs::lemmas::Grind::common_steps))]
 fn call<'a>(
     symbols: &'a SymbolTable,
     known: &mut Known<'a>,
@@ -175,6 +180,7 @@ fn block<'a>(
 
 /// Of the statements and of what chooses among them, in the order of the text.
 #[cycle(gather)]
+#[tactic(auto, using(crate::proofs::Walked::walked, std::proofs::lemmas::Grind::common_steps))]
 fn control<'a>(
     symbols: &'a SymbolTable,
     known: &mut Known<'a>,
@@ -193,7 +199,10 @@ fn control<'a>(
             tree(symbols, known, right)
         }
         Control::Not(node) => tree(symbols, known, node),
-        Control::If(test, then, last) => three(symbols, known, test, then, last),
+        Control::If(test, then, last) => match last {
+            Some(last) => three(symbols, known, test, then, last),
+            None => two(symbols, known, test, then),
+        },
         Control::While(body, test, _, _) => two(symbols, known, body, test),
         Control::Case(value, all, last) => {
             tree(symbols, known, value)?;
@@ -209,6 +218,7 @@ fn control<'a>(
 
 /// Of two parts, in the order of their places.
 #[cycle(gather)]
+#[tactic(auto, using(crate::proofs::Walked::walked, std::proofs::lemmas::Grind::common_steps))]
 fn two<'a>(
     symbols: &'a SymbolTable,
     known: &mut Known<'a>,
@@ -226,34 +236,40 @@ fn two<'a>(
     }
 }
 
-/// Of two parts and one that may be missing, in the order of their places.
+/// Of three parts, in the order of their places.
 #[cycle(gather)]
+#[tactic(auto, using(crate::proofs::Walked::walked, std::proofs::lemmas::Grind::common_steps))]
 fn three<'a>(
     symbols: &'a SymbolTable,
     known: &mut Known<'a>,
     first: &Node,
     second: &Node,
-    third: &Option<Box<Node>>,
+    third: &Node,
 ) -> Result<(), NoMemory>
-    ensures { OnOk result ((place : ℕ) → gathered known.new place ≡ by_places (place_of (tree_of symbols.now first.now)) (of_tree place (tree_of symbols.now first.now)) (place_of (tree_of symbols.now second.now)) (of_tree place (tree_of symbols.now second.now)) (place_of_other (read_other symbols.now third.now)) (of_other place (read_other symbols.now third.now)) (gathered known.old place)) }
+    ensures { OnOk result ((place : ℕ) → gathered known.new place ≡ by_places (place_of (tree_of symbols.now first.now)) (of_tree place (tree_of symbols.now first.now)) (place_of (tree_of symbols.now second.now)) (of_tree place (tree_of symbols.now second.now)) (place_of (tree_of symbols.now third.now)) (of_tree place (tree_of symbols.now third.now)) (gathered known.old place)) }
 {
-    let Some(third) = third else {
-        return two(symbols, known, first, second);
-    };
-    if third.place < first.place && third.place < second.place {
-        tree(symbols, known, third)?;
-        two(symbols, known, first, second)
-    } else if first.place <= second.place {
-        tree(symbols, known, first)?;
-        two(symbols, known, second, third)
-    } else {
+    if first.place <= second.place {
+        if first.place <= third.place {
+            tree(symbols, known, first)?;
+            two(symbols, known, second, third)
+        } else {
+            tree(symbols, known, third)?;
+            tree(symbols, known, first)?;
+            tree(symbols, known, second)
+        }
+    } else if second.place <= third.place {
         tree(symbols, known, second)?;
         two(symbols, known, first, third)
+    } else {
+        tree(symbols, known, third)?;
+        tree(symbols, known, second)?;
+        tree(symbols, known, first)
     }
 }
 
 /// Of the values.
 #[cycle(gather)]
+#[tactic(auto, using(crate::proofs::Walked::walked, std::proofs::lemmas::Grind::common_steps))]
 fn exit<'a>(
     symbols: &'a SymbolTable,
     known: &mut Known<'a>,
@@ -271,6 +287,7 @@ fn exit<'a>(
 
 /// Of the statements and the clauses.
 #[cycle(gather)]
+#[tactic(auto, using(crate::proofs::Walked::walked, std::proofs::lemmas::Grind::common_steps))]
 fn handler<'a>(
     symbols: &'a SymbolTable,
     known: &mut Known<'a>,
@@ -279,7 +296,10 @@ fn handler<'a>(
     ensures { OnOk result ((place : ℕ) → gathered known.new place ≡ of_form place (read_handler symbols.now handler.now) (gathered known.old place)) }
 {
     match handler {
-        Handler::Rescue(body, last, sequence) => three(symbols, known, body, sequence, last),
+        Handler::Rescue(body, last, sequence) => match last {
+            Some(last) => three(symbols, known, body, sequence, last),
+            None => two(symbols, known, body, sequence),
+        },
         Handler::Ensure(body, sequence) => {
             tree(symbols, known, body)?;
             tree(symbols, known, sequence)
@@ -291,6 +311,7 @@ fn handler<'a>(
 
 /// Of a superclass, or of the parameters and the statements of a body.
 #[cycle(gather)]
+#[tactic(auto, using(crate::proofs::Walked::walked, std::proofs::lemmas::Grind::common_steps))]
 fn definition<'a>(
     symbols: &'a SymbolTable,
     known: &mut Known<'a>,

@@ -1,7 +1,8 @@
 //! The locals of one environment.
-ghost use Rattle.std.specs.Prelude.{◌≡◌, [], ◌∷◌, ◌++◌, map, OnOk, OnErr};
+ghost use Rattle.std.specs.Prelude.{◌≡◌, [], ◌∷◌, ◌++◌, map, cond, Some, None, OnOk, OnErr};
 ghost use Rattle.std.specs.List.{position};
-ghost use Rattle.ruby_lexer.specs.Bytes.{same, is_in};
+ghost use Rattle.ruby_lexer.specs.Bytes.{Bytes, same, is_in};
+ghost use Rattle.local_scopes.specs.Slots.{slot_of, or_else};
 
 use bs_outside::NoMemory;
 use indexmap::IndexMap;
@@ -47,9 +48,8 @@ impl<'a> Locals<'a> {
         ensures err { OnErr result (self.new ≡ self.old) }
     {
         self.names.reserve(1)?;
-        if !self.slots.contains_key(name) {
-            self.slots.insert(name, self.names.len())?;
-        }
+        let slot = self.names.len();
+        note(&mut self.slots, name, slot)?;
         self.names.push(name)?;
         Ok(())
     }
@@ -74,4 +74,20 @@ impl<'a> Locals<'a> {
     {
         &self.names
     }
+}
+
+/// The name has this place, where it had none.
+fn note<'a>(
+    slots: &mut IndexMap<&'a [u8], usize>,
+    name: &'a [u8],
+    slot: usize,
+) -> Result<(), NoMemory>
+    ensures ok { OnOk result ((other : Bytes) → slot_of other slots.new.entries ≡ or_else (slot_of other slots.old.entries) (cond (same other name.now) (Some slot) None)) }
+    ensures err { OnErr result (slots.new.entries ≡ slots.old.entries) }
+{
+    if slots.contains_key(name) {
+        return Ok(());
+    }
+    slots.insert(name, slot)?;
+    Ok(())
 }

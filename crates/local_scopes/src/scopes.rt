@@ -26,7 +26,6 @@ pub struct LocalScopes<'a> {
 impl<'a> Model for LocalScopes<'a> {
     ghost use Rattle.std.specs.Prelude.{List};
     ghost use Rattle.local_scopes.specs.Opened.{Open};
-
     ghost use Rattle.ruby_tree.specs.contracts.node.Node as node;
     ghost use Rattle.std.specs.Coded.{codes};
 
@@ -108,7 +107,7 @@ impl<'a> LocalScopes<'a> {
     pub fn locals(&self) -> &[&'a [u8]]
         ensures { map (λ name. name.now) result.now ≡ innermost_names (sight self.now).scopes }
     {
-        let Some(environment) = self.open.last() else {
+        let Some((environment, _)) = self.open.split_last() else {
             return &[];
         };
         environment.locals.names()
@@ -118,7 +117,7 @@ impl<'a> LocalScopes<'a> {
     pub fn params(&self) -> &'a [Param<Node>]
         ensures { names_of_params (read_params (innermost_texts self.now) result.now) ≡ names_of_params (params_of (sight self.now).body) }
     {
-        let Some(environment) = self.open.last() else {
+        let Some((environment, _)) = self.open.split_last() else {
             return &[];
         };
         params_within(environment.kind, environment.body)

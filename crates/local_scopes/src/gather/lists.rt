@@ -13,6 +13,7 @@ use ruby_tree::{Name, Node, Param, SymbolTable, Target, TextPart};
 
 /// Of several trees.
 #[cycle(gather)]
+#[tactic(auto, using(crate::proofs::Walked::walked, std::proofs::lemmas::Grind::common_steps))]
 pub(super) fn trees<'a>(
     symbols: &'a SymbolTable,
     known: &mut Known<'a>,
@@ -28,6 +29,7 @@ pub(super) fn trees<'a>(
 
 /// Of a part that may be missing.
 #[cycle(gather)]
+#[tactic(auto, using(crate::proofs::Walked::walked, std::proofs::lemmas::Grind::common_steps))]
 pub(super) fn other<'a>(
     symbols: &'a SymbolTable,
     known: &mut Known<'a>,
@@ -43,6 +45,7 @@ pub(super) fn other<'a>(
 
 /// Of the keys and values of a hash.
 #[cycle(gather)]
+#[tactic(auto, using(crate::proofs::Walked::walked, std::proofs::lemmas::Grind::common_steps))]
 pub(super) fn pairs<'a>(
     symbols: &'a SymbolTable,
     known: &mut Known<'a>,
@@ -59,6 +62,7 @@ pub(super) fn pairs<'a>(
 
 /// Of the parts of a text.
 #[cycle(gather)]
+#[tactic(auto, using(crate::proofs::Walked::walked, std::proofs::lemmas::Grind::common_steps))]
 pub(super) fn parts<'a>(
     symbols: &'a SymbolTable,
     known: &mut Known<'a>,
@@ -74,6 +78,7 @@ pub(super) fn parts<'a>(
 
 /// Of a part of a text.
 #[cycle(gather)]
+#[tactic(auto, using(crate::proofs::Walked::walked, std::proofs::lemmas::Grind::common_steps))]
 fn part<'a>(
     symbols: &'a SymbolTable,
     known: &mut Known<'a>,
@@ -89,6 +94,7 @@ fn part<'a>(
 
 /// Of what a case is compared with, and the bodies.
 #[cycle(gather)]
+#[tactic(auto, using(crate::proofs::Walked::walked, std::proofs::lemmas::Grind::common_steps))]
 pub(super) fn whens<'a>(
     symbols: &'a SymbolTable,
     known: &mut Known<'a>,
@@ -105,6 +111,7 @@ pub(super) fn whens<'a>(
 
 /// Of the classes of rescue clauses, the names that the exceptions get, and the bodies.
 #[cycle(gather)]
+#[tactic(auto, using(crate::proofs::Walked::walked, std::proofs::lemmas::Grind::common_steps))]
 pub(super) fn clauses<'a>(
     symbols: &'a SymbolTable,
     known: &mut Known<'a>,
@@ -136,6 +143,7 @@ fn name<'a>(
 
 /// Of the parameters, and of what they are where no argument is given.
 #[cycle(gather)]
+#[tactic(auto, using(crate::proofs::Walked::walked, std::proofs::lemmas::Grind::common_steps))]
 pub(super) fn params<'a>(
     symbols: &'a SymbolTable,
     known: &mut Known<'a>,
@@ -151,6 +159,7 @@ pub(super) fn params<'a>(
 
 /// Of a parameter.
 #[cycle(gather)]
+#[tactic(auto, using(crate::proofs::Walked::walked, std::proofs::lemmas::Grind::common_steps))]
 fn param<'a>(
     symbols: &'a SymbolTable,
     known: &mut Known<'a>,
