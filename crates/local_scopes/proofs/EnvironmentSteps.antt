@@ -126,11 +126,11 @@ seen-nowhere name count around h = ap (λ es. is_in name (seen_names count (reve
 
 slot-first : (name : Bytes) (names : List Bytes) → slot_in name names ≡ first name names
 slot-first name [] = refl
-slot-first name (y ∷ names) = by (same name y)
+slot-first name (y ∷ names) = by (same name y) (slot-first name names)
   where
-    by : (b : Bool) → cond b 0 (suc (slot_in name names)) ≡ cond (not b) (1 + first name names) 0
-    by true = refl
-    by false = let h : slot_in name names ≡ first name names = slot-first name names in omega arith
+    by : (b : Bool) → slot_in name names ≡ first name names → cond b 0 (suc (slot_in name names)) ≡ cond (not b) (1 + first name names) 0
+    by true rest = refl
+    by false rest = omega arith
 
 is_in-first : (name : Bytes) (names : List Bytes) → nat_lt (first name names) (length names) ≡ true → is_in name names ≡ true
 is_in-first name names h = sym (below-first name names) ∙ h
@@ -193,11 +193,11 @@ next-param texts ps i p text old new all less is named pushed so_far_all =
 
 without-push : (others xs : List Bytes) (x : Bytes) → without_names others (xs ++ x ∷ []) ≡ without_names others xs ++ cond (is_in x others) [] (x ∷ [])
 without-push others [] x = refl
-without-push others (y ∷ xs) x = by (is_in y others)
+without-push others (y ∷ xs) x = by (is_in y others) (without-push others xs x)
   where
-    by : (b : Bool) → cond b (without_names others (xs ++ x ∷ [])) (y ∷ without_names others (xs ++ x ∷ [])) ≡ cond b (without_names others xs) (y ∷ without_names others xs) ++ cond (is_in x others) [] (x ∷ [])
-    by true = without-push others xs x
-    by false = ap (λ (l : List Bytes). y ∷ l) (without-push others xs x)
+    by : (b : Bool) → without_names others (xs ++ x ∷ []) ≡ without_names others xs ++ cond (is_in x others) [] (x ∷ []) → cond b (without_names others (xs ++ x ∷ [])) (y ∷ without_names others (xs ++ x ∷ [])) ≡ cond b (without_names others xs) (y ∷ without_names others xs) ++ cond (is_in x others) [] (x ∷ [])
+    by true rest = rest
+    by false rest = ap (λ (l : List Bytes). y ∷ l) rest
 
 or-left : (a b : Bool) → (a || b) ≡ false → a ≡ false
 or-left false b h = refl
@@ -214,14 +214,11 @@ or-none false = refl
 -- what is not in a list is not in a part of it
 without-none : (others xs : List Bytes) (x : Bytes) → is_in x xs ≡ false → is_in x (without_names others xs) ≡ false
 without-none others [] x h = refl
-without-none others (y ∷ xs) x h = by (is_in y others)
+without-none others (y ∷ xs) x h = by (is_in y others) (without-none others xs x (or-right (same x y) (is_in x xs) h))
   where
-    rest : is_in x (without_names others xs) ≡ false
-    rest = without-none others xs x (or-right (same x y) (is_in x xs) h)
-
-    by : (b : Bool) → is_in x (cond b (without_names others xs) (y ∷ without_names others xs)) ≡ false
-    by true = rest
-    by false = ap (λ c. c || is_in x (without_names others xs)) (or-left (same x y) (is_in x xs) h) ∙ rest
+    by : (b : Bool) → is_in x (without_names others xs) ≡ false → is_in x (cond b (without_names others xs) (y ∷ without_names others xs)) ≡ false
+    by true rest = rest
+    by false rest = ap (λ c. c || is_in x (without_names others xs)) (or-left (same x y) (is_in x xs) h) ∙ rest
 
 apart-at : (g : Bytes) (ks : List (Bor Bytes)) (i : ℕ) (x : Bor Bytes) → AllByRecursion (λ h. same g h ≡ false) (lent ks) → i < length ks → same g (get_or ks i x).now ≡ false
 apart-at g [] i x h less = absurd (omega arith)

@@ -57,19 +57,19 @@ more-marks m n (x ∷ ms) le h = ((h.0.0, omega (arith, h.0.1)), more-marks m n 
 
 mark-within : (n place : ℕ) (ms : List (ℕ × ℕ)) → AreMarks n ms → IfSome (lookup (nat_eq place) ms) (λ k. k ≤ n)
 mark-within n place [] h = tt
-mark-within n place (m ∷ ms) h = by (nat_eq place m.0)
+mark-within n place (m ∷ ms) h = by (nat_eq place m.0) (mark-within n place ms h.1)
   where
-    by : (b : Bool) → IfSome (cond b (Some m.1) (lookup (nat_eq place) ms)) (λ k. k ≤ n)
-    by true = h.0.1
-    by false = mark-within n place ms h.1
+    by : (b : Bool) → IfSome (lookup (nat_eq place) ms) (λ k. k ≤ n) → IfSome (cond b (Some m.1) (lookup (nat_eq place) ms)) (λ k. k ≤ n)
+    by true rest = h.0.1
+    by false rest = rest
 
 pub put-mark : (n at k : ℕ) (ms : List (ℕ × ℕ)) → at < 2 ^ 64 → k ≤ n → AreMarks n ms → AreMarks n (insert_entry nat_eq ms at k)
 put-mark n at k [] low le h = ((low, le), tt)
-put-mark n at k (m ∷ ms) low le h = by (nat_eq at m.0)
+put-mark n at k (m ∷ ms) low le h = by (nat_eq at m.0) (put-mark n at k ms low le h.1)
   where
-    by : (b : Bool) → AreMarks n (if b then (m.0, k) ∷ ms else m ∷ insert_entry nat_eq ms at k)
-    by true = ((h.0.0, le), h.1)
-    by false = (h.0, put-mark n at k ms low le h.1)
+    by : (b : Bool) → AreMarks n (insert_entry nat_eq ms at k) → AreMarks n (if b then (m.0, k) ∷ ms else m ∷ insert_entry nat_eq ms at k)
+    by true rest = ((h.0.0, le), h.1)
+    by false rest = (h.0, rest)
 
 -- no block stands as far as this
 unmarked : (n : ℕ) (ms : List (ℕ × ℕ)) → AreMarks n ms → lookup (nat_eq (2 ^ 64)) ms ≡ None
@@ -184,21 +184,21 @@ lt_suc a b = by (nat_lt a b) refl
 shown : (t : Bytes) (ys : List Bytes) (count : ℕ) → nat_lt (first t ys) (length ys) ≡ true → nat_lt (first t ys) count ≡ is_in t (take count ys)
 shown t [] count h = let no : false ≡ true = h in cc
 shown t (y ∷ ys) zero h = lt_false (first t (y ∷ ys)) zero (omega arith)
-shown t (y ∷ ys) (suc count) h = by (same t y) h
+shown t (y ∷ ys) (suc count) h = by (same t y) h (shown t ys count)
   where
-    by : (b : Bool) → nat_lt (cond (not b) (1 + first t ys) 0) (suc (length ys)) ≡ true → nat_lt (cond (not b) (1 + first t ys) 0) (suc count) ≡ (b || is_in t (take count ys))
-    by true h = lt_true 0 (suc count) (omega arith)
-    by false h = lt_suc (first t ys) count ∙ shown t ys count (sym (lt_suc (first t ys) (length ys)) ∙ h)
+    by : (b : Bool) → nat_lt (cond (not b) (1 + first t ys) 0) (suc (length ys)) ≡ true → (nat_lt (first t ys) (length ys) ≡ true → nat_lt (first t ys) count ≡ is_in t (take count ys)) → nat_lt (cond (not b) (1 + first t ys) 0) (suc count) ≡ (b || is_in t (take count ys))
+    by true h rest = lt_true 0 (suc count) (omega arith)
+    by false h rest = lt_suc (first t ys) count ∙ rest (sym (lt_suc (first t ys) (length ys)) ∙ h)
 
 none_taken : (t : Bytes) (ys : List Bytes) (count : ℕ) → is_in t ys ≡ false → is_in t (take count ys) ≡ false
 none_taken t [] zero h = refl
 none_taken t [] (suc count) h = refl
 none_taken t (y ∷ ys) zero h = refl
-none_taken t (y ∷ ys) (suc count) h = by (same t y) h
+none_taken t (y ∷ ys) (suc count) h = by (same t y) h (none_taken t ys count)
   where
-    by : (b : Bool) → (b || is_in t ys) ≡ false → (b || is_in t (take count ys)) ≡ false
-    by true h = h
-    by false h = none_taken t ys count h
+    by : (b : Bool) → (b || is_in t ys) ≡ false → (is_in t ys ≡ false → is_in t (take count ys) ≡ false) → (b || is_in t (take count ys)) ≡ false
+    by true h rest = h
+    by false h rest = rest h
 
 found : (i n len : ℕ) (b : Bool) → Some i ≡ cond b (Some n) None → (b ≡ true) × (i ≡ n)
 found i n len true is = (refl, cc is)

@@ -59,6 +59,17 @@ noted old new name slot other none is = is ∙ ap (λ b. cond b (Some slot) (slo
 pub indexed-none : (names : List Bytes) (entries : List (Bor Bytes × ℕ)) (name : Bytes) → names ≡ [] → entries ≡ [] → slot_of name entries ≡ position (same name) names
 indexed-none names entries name e f = ap (slot_of name) f ∙ sym (ap (position (same name)) e)
 
+within : (p : Bytes → Bool) (xs : List Bytes) → position_or_len p xs ≤ length xs
+within p [] = omega arith
+within p (x ∷ xs) = step (p x) (within p xs)
+  where
+    step : (b : Bool) → position_or_len p xs ≤ length xs → cond (not b) (1 + position_or_len p xs) 0 ≤ suc (length xs)
+    step true rest = omega arith
+    step false rest = omega arith
+
+less : (f l : ℕ) → nat_eq f l ≡ false → f ≤ l → f < l
+less f l is le = grind (arith, nat_tests)
+
 -- the place of a name among one more
 position-push : (p : Bytes → Bool) (xs : List Bytes) (y : Bytes) → position p (xs ++ y ∷ []) ≡ or_else (position p xs) (cond (p y) (Some (length xs)) None)
 position-push p xs y =
@@ -66,14 +77,6 @@ position-push p xs y =
     ∙ ap (λ n. cond (nat_lt (cond (nat_eq (position_or_len p xs) (length xs)) (length xs + cond (p y) 0 1) (position_or_len p xs)) n) (Some (cond (nat_eq (position_or_len p xs) (length xs)) (length xs + cond (p y) 0 1) (position_or_len p xs))) None) (length-append xs (y ∷ []))
     ∙ by (position_or_len p xs) (length xs) (nat_eq (position_or_len p xs) (length xs)) (p y) refl (within p xs)
   where
-    within : (p : Bytes → Bool) (xs : List Bytes) → position_or_len p xs ≤ length xs
-    within p [] = omega arith
-    within p (x ∷ xs) = step (p x)
-      where
-        step : (b : Bool) → cond (not b) (1 + position_or_len p xs) 0 ≤ suc (length xs)
-        step true = omega arith
-        step false = let h : position_or_len p xs ≤ length xs = within p xs in omega arith
-
     by : (f l : ℕ) (b c : Bool) → nat_eq f l ≡ b → f ≤ l → cond (nat_lt (cond b (l + cond c 0 1) f) (l + 1)) (Some (cond b (l + cond c 0 1) f)) None ≡ or_else (cond (nat_lt f l) (Some f) None) (cond c (Some l) None)
     by f l true true is le =
         let e : f ≡ l = eqb-true f l is in
@@ -87,10 +90,6 @@ position-push p xs y =
         let below : f < l = less f l is le in
         ap (λ b. cond b (Some f) None) (lt_true f (l + 1) (omega arith))
         ∙ sym (ap (λ b. or_else (cond b (Some f) None) (cond c (Some l) None)) (lt_true f l below))
-      where
-        less : (f l : ℕ) → nat_eq f l ≡ false → f ≤ l → f < l
-        less f l is le = grind (arith, nat_tests)
-
 -- a name more
 pub indexed-push : (names new : List (Bor Bytes)) (old entries : List (Bor Bytes × ℕ)) (name : Bor Bytes) (slot : ℕ) → ((x : Bytes) → slot_of x old ≡ position (same x) (lent names)) → ((x : Bytes) → slot_of x entries ≡ or_else (slot_of x old) (cond (same x name.now) (Some slot) None)) → slot ≡ length names → new ≡ names ++ name ∷ [] → (x : Bytes) → slot_of x entries ≡ position (same x) (lent new)
 indexed-push names new old entries name slot h step count is x =
@@ -107,11 +106,11 @@ names-push names new name old is view = ap lent is ∙ map-append (λ (k : Bor B
 
 pub below-first : (x : Bytes) (names : List Bytes) → nat_lt (first x names) (length names) ≡ is_in x names
 below-first x [] = refl
-below-first x (y ∷ names) = step (same x y)
+below-first x (y ∷ names) = step (same x y) (below-first x names)
   where
-    step : (b : Bool) → nat_lt (cond (not b) (1 + first x names) 0) (suc (length names)) ≡ (b || is_in x names)
-    step true = lt_true 0 (suc (length names)) (omega arith)
-    step false = lt_suc (first x names) (length names) ∙ below-first x names
+    step : (b : Bool) → nat_lt (first x names) (length names) ≡ is_in x names → nat_lt (cond (not b) (1 + first x names) 0) (suc (length names)) ≡ (b || is_in x names)
+    step true rest = lt_true 0 (suc (length names)) (omega arith)
+    step false rest = lt_suc (first x names) (length names) ∙ rest
 
 -- the test whether a name is among them
 pub is_in-slot : (x : Bytes) (names : List Bytes) → is_some (position (same x) names) ≡ is_in x names

@@ -1,14 +1,25 @@
 -- What the walk comes to, node by node.
-use Rattle.std.proofs.Common.{◌≡◌, ℕ, zero, ◌<◌, ◌≤◌, Bool, true, false, cond, nat_le, List, length, drop, get_or, map, refl, sym, ap, ◌∙◌, arith}
+use Rattle.std.proofs.Common.{◌≡◌, ℕ, zero, ◌<◌, ◌≤◌, Bool, true, false, cond, nat_le, Option, Some, None, Result, Ok, Err, OnOk, refl, sym, ap, ◌∙◌, arith}
 use Rattle.std.proofs.lemmas.Bool.Decides.{nat_tests}
-use Rattle.std.proofs.lemmas.List.{at_drop_more}
+use Rattle.std.specs.declared.boxed.Box.{Box}
+use Rattle.std.specs.declared.alloc.Global.{Global}
+use Rattle.ruby_tree.specs.declared.node.TextPart.{TextPart}
+use Rattle.ruby_tree.specs.declared.node.TextPart.TheVariants as text_part
+use Rattle.ruby_tree.specs.declared.node.Control.{Control}
+use Rattle.ruby_tree.specs.declared.node.Control.TheVariants as control
+use Rattle.ruby_tree.specs.declared.node.Handler.{Handler}
+use Rattle.ruby_tree.specs.declared.node.Handler.TheVariants as handler
+use Rattle.ruby_tree.specs.declared.node.Param.{Param}
+use Rattle.ruby_tree.specs.declared.node.Param.TheVariants as param
 use Rattle.ruby_tree.specs.declared.node.Node.{Node}
 use Rattle.ruby_tree.specs.declared.node.Node.TheViews.{out-Node}
 use Rattle.ruby_tree.specs.Names.{Texts}
+use Rattle.ruby_tree.specs.Tree.{Pieces, no_piece, Params, no_param}
 use Rattle.ruby_tree.specs.Read.{tree_of}
-use Rattle.ruby_tree.specs.Views.{read_kind}
+use Rattle.ruby_tree.specs.Views.{read_kind, read_part, read_param, read_control, read_handler}
 use Rattle.ruby_tree.proofs.Opened.{tree_of-is}
-use Rattle.ruby_meaning.specs.Locals.{Gather, Gathered, place_of, of_tree, of_form, in_two, by_place, by_places}
+use Rattle.local_scopes.specs.Gathering.{Gathering, gathered}
+use Rattle.ruby_meaning.specs.Locals.{Gather, Gathered, place_of, of_tree, of_form, of_pieces, of_params, in_two, by_place, by_places}
 
 -- a tree is walked as its form is
 pub walk-tree : (texts : Texts) (n : Node) (place : ℕ) (all : Gathered) → of_tree place (tree_of texts n) all ≡ of_form place (read_kind texts (out-Node n).kind) all
@@ -75,5 +86,78 @@ module _ (p : ℕ) (f : Gather) (q : ℕ) (g : Gather) (r : ℕ) (h : Gather) (a
       let rp : r < p = omega arith in
       ap (λ a. sorted a (nat_le q r) (nat_le p r) all) (le_false p q qp) ∙ ap (λ c. sorted false (nat_le q r) c all) (le_false p r rp) ∙ ap (λ b. sorted false b false all) (le_false q r rq)
 
+-- a part of a text before others, and a parameter before others
+pub part-then : (texts : Texts) (p : TextPart Node) (ps : Pieces) (place : ℕ) (all : Gathered) → of_pieces place (read_part texts p ps) all ≡ of_pieces place ps (of_pieces place (read_part texts p no_piece) all)
+part-then texts (text_part.Plain f) ps place all = refl
+part-then texts (text_part.Code n) ps place all = refl
+
+pub param-then : (texts : Texts) (p : Param Node) (ps : Params) (place : ℕ) (all : Gathered) → of_params place (read_param texts p ps) all ≡ of_params place ps (of_params place (read_param texts p no_param) all)
+param-then texts (param.Required n) ps place all = refl
+param-then texts (param.Optional n a) ps place all = refl
+param-then texts (param.Rest n) ps place all = refl
+param-then texts (param.Block n) ps place all = refl
+
+-- What a call tells.
+
+pub tree-told : {T E : Type 0} (texts : Texts) (n : Node) (old new : Gathering) (r : Result T E) → OnOk r ((place : ℕ) → gathered new place ≡ of_form place (read_kind texts (out-Node n).kind) (gathered old place)) → OnOk r ((place : ℕ) → gathered new place ≡ of_tree place (tree_of texts n) (gathered old place))
+tree-told texts n old new (Ok x) h = λ place. h place ∙ sym (walk-tree texts n place (gathered old place))
+tree-told texts n old new (Err e) h = tt
+
+-- two and three parts of a node
+abbrev of_two : Texts → ℕ → Node → Node → Gather
+of_two texts place m n = by_place (place_of (tree_of texts m)) (of_tree place (tree_of texts m)) (place_of (tree_of texts n)) (of_tree place (tree_of texts n))
+
+abbrev of_three : Texts → ℕ → Node → Node → Node → Gather
+of_three texts place m n o = by_places (place_of (tree_of texts m)) (of_tree place (tree_of texts m)) (place_of (tree_of texts n)) (of_tree place (tree_of texts n)) (place_of (tree_of texts o)) (of_tree place (tree_of texts o))
+
+module _ {T E : Type 0} (texts : Texts) (old new : Gathering) (r : Result T E) (a b : Box Node Global) (o : Option (Box Node Global)) (m n : Node) (m-is : m ≡ a.value) (n-is : n ≡ b.value) where
+  pub if-two : (x : Control Node) → x ≡ control.If a b o → o ≡ None → OnOk r ((place : ℕ) → gathered new place ≡ of_two texts place m n (gathered old place)) → OnOk r ((place : ℕ) → gathered new place ≡ of_form place (read_control texts x) (gathered old place))
+  if-two x is none h = by r h
+    where
+      by : (r : Result T E) → OnOk r ((place : ℕ) → gathered new place ≡ of_two texts place m n (gathered old place)) → OnOk r ((place : ℕ) → gathered new place ≡ of_form place (read_control texts x) (gathered old place))
+      by (Ok y) h = λ place.
+          h place
+          ∙ ap (λ (k : Node). of_two texts place k n (gathered old place)) m-is
+          ∙ ap (λ (k : Node). of_two texts place a.value k (gathered old place)) n-is
+          ∙ sym (no-third (place_of (tree_of texts a.value)) (of_tree place (tree_of texts a.value)) (place_of (tree_of texts b.value)) (of_tree place (tree_of texts b.value)) (gathered old place))
+          ∙ ap (λ (k : Control Node). of_form place (read_control texts k) (gathered old place)) (sym (is ∙ ap (λ (k : Option (Box Node Global)). control.If a b k) none))
+      by (Err e) h = tt
+
+  pub if-three : (x : Control Node) (c : Box Node Global) (l : Node) → l ≡ c.value → x ≡ control.If a b o → o ≡ Some c → OnOk r ((place : ℕ) → gathered new place ≡ of_three texts place m n l (gathered old place)) → OnOk r ((place : ℕ) → gathered new place ≡ of_form place (read_control texts x) (gathered old place))
+  if-three x c l l-is is some h = by r h
+    where
+      by : (r : Result T E) → OnOk r ((place : ℕ) → gathered new place ≡ of_three texts place m n l (gathered old place)) → OnOk r ((place : ℕ) → gathered new place ≡ of_form place (read_control texts x) (gathered old place))
+      by (Ok y) h = λ place.
+          h place
+          ∙ ap (λ (k : Node). of_three texts place k n l (gathered old place)) m-is
+          ∙ ap (λ (k : Node). of_three texts place a.value k l (gathered old place)) n-is
+          ∙ ap (λ (k : Node). of_three texts place a.value b.value k (gathered old place)) l-is
+          ∙ ap (λ (k : Control Node). of_form place (read_control texts k) (gathered old place)) (sym (is ∙ ap (λ (k : Option (Box Node Global)). control.If a b k) some))
+      by (Err e) h = tt
+
+  pub rescue-two : (x : Handler Node) → x ≡ handler.Rescue a o b → o ≡ None → OnOk r ((place : ℕ) → gathered new place ≡ of_two texts place m n (gathered old place)) → OnOk r ((place : ℕ) → gathered new place ≡ of_form place (read_handler texts x) (gathered old place))
+  rescue-two x is none h = by r h
+    where
+      by : (r : Result T E) → OnOk r ((place : ℕ) → gathered new place ≡ of_two texts place m n (gathered old place)) → OnOk r ((place : ℕ) → gathered new place ≡ of_form place (read_handler texts x) (gathered old place))
+      by (Ok y) h = λ place.
+          h place
+          ∙ ap (λ (k : Node). of_two texts place k n (gathered old place)) m-is
+          ∙ ap (λ (k : Node). of_two texts place a.value k (gathered old place)) n-is
+          ∙ sym (no-third (place_of (tree_of texts a.value)) (of_tree place (tree_of texts a.value)) (place_of (tree_of texts b.value)) (of_tree place (tree_of texts b.value)) (gathered old place))
+          ∙ ap (λ (k : Handler Node). of_form place (read_handler texts k) (gathered old place)) (sym (is ∙ ap (λ (k : Option (Box Node Global)). handler.Rescue a k b) none))
+      by (Err e) h = tt
+
+  pub rescue-three : (x : Handler Node) (c : Box Node Global) (l : Node) → l ≡ c.value → x ≡ handler.Rescue a o b → o ≡ Some c → OnOk r ((place : ℕ) → gathered new place ≡ of_three texts place m n l (gathered old place)) → OnOk r ((place : ℕ) → gathered new place ≡ of_form place (read_handler texts x) (gathered old place))
+  rescue-three x c l l-is is some h = by r h
+    where
+      by : (r : Result T E) → OnOk r ((place : ℕ) → gathered new place ≡ of_three texts place m n l (gathered old place)) → OnOk r ((place : ℕ) → gathered new place ≡ of_form place (read_handler texts x) (gathered old place))
+      by (Ok y) h = λ place.
+          h place
+          ∙ ap (λ (k : Node). of_three texts place k n l (gathered old place)) m-is
+          ∙ ap (λ (k : Node). of_three texts place a.value k l (gathered old place)) n-is
+          ∙ ap (λ (k : Node). of_three texts place a.value b.value k (gathered old place)) l-is
+          ∙ ap (λ (k : Handler Node). of_form place (read_handler texts k) (gathered old place)) (sym (is ∙ ap (λ (k : Option (Box Node Global)). handler.Rescue a k b) some))
+      by (Err e) h = tt
+
 -- for `using(..)` on the functions of the walk
-pub ruleset walked = (walk-tree, place-tree)
+pub ruleset walked = (walk-tree, place-tree, part-then, param-then)

@@ -1,5 +1,6 @@
 -- The places of names, by an index.
-use Rattle.std.specs.Prelude.{Bor, ℕ, List, Option, Some, None}
+use Rattle.std.specs.Prelude.{ℕ, List, Option, Some, None}
+use Rattle.std.specs.Borrow.{Bor}
 use Rattle.std.specs.Map.{lookup}
 use Rattle.ruby_lexer.specs.Bytes.{Bytes, same}
 
