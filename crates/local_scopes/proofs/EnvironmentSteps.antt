@@ -1,6 +1,8 @@
 -- The environments of the open bodies, step by step.
-use Rattle.std.proofs.Common.{Bor, ◌≡◌, ℕ, zero, suc, ◌+◌, ◌^◌, ◌<◌, ◌≤◌, List, [], ◌∷◌, ◌++◌, map, length, take, drop, reverse, get_or, nat_eq, nat_lt, cond, Bool, true, false, not, ◌||◌, Option, Some, None, refl, sym, ◌∙◌, ap, subst, arith, length-append, append_assoc, append-nil, add-one}
+use Rattle.std.proofs.Common.{Bor, ◌≡◌, ℕ, zero, suc, ◌+◌, ◌^◌, ◌<◌, ◌≤◌, List, [], ◌∷◌, ◌++◌, map, length, take, drop, reverse, get_or, nat_eq, nat_lt, cond, Bool, true, false, not, ◌||◌, Option, Some, None, MatchOption, refl, sym, ◌∙◌, ap, subst, arith, length-append, append_assoc, append-nil, add-one}
+use Rattle.std.specs.Option.{option_to_list}
 use Rattle.std.specs.List.{AllByRecursion, IsDistinct, list_any, position, position_or_len}
+use Rattle.std.proofs.lemmas.Option.{slice_get-get_or, get_or_from_slice_get}
 use Rattle.std.proofs.lemmas.List.{at_drop_more, take_more, map-append, reverse-append}
 use Rattle.std.proofs.lemmas.List.Folds.{list_any-append}
 use Rattle.ruby_lexer.specs.Bytes.{Bytes, same, is_in}
@@ -18,8 +20,8 @@ use Rattle.local_scopes.specs.declared.kinds.BodyKind.{BodyKind}
 use Rattle.local_scopes.specs.declared.kinds.BodyKind.TheVariants.{File, Home, Block}
 use Rattle.local_scopes.specs.declared.environments.Environment.{Environment}
 use Rattle.local_scopes.specs.Gathering.{Gathering, gathered}
-use Rattle.local_scopes.specs.Opened.{Open, sight_as, sight, sights, innermost}
-use Rattle.local_scopes.specs.Environments.{open_of, visible, seen_names, seen_at, scopes_in, sight_in, IsRight, AreRight}
+use Rattle.local_scopes.specs.Opened.{Open, sight_as, sight, sights, innermost, innermost_names, innermost_texts}
+use Rattle.local_scopes.specs.Environments.{open_of, visible, seen_names, seen_at, scopes_in, sight_in, params_as, IsRight, AreRight}
 use Rattle.local_scopes.proofs.KnownSteps.{lent, first, placed, lt_true}
 use Rattle.local_scopes.proofs.LocalSteps.{same-swap, below-first}
 
@@ -88,9 +90,9 @@ opened-right e es h known mark all locals =
       known = gathers e.kind (tree_in e) (sight (map open_of es)) e.known known;
       seen = seen;
       scopes = scoped e.kind (tree_in e) es e.locals h
-      (locals
-      ∙ ap (λ (xs : List Bytes). names_of_params (params_of (tree_in e)) ++ without_names (names_of_params (params_of (tree_in e)) ++ xs) e.known.names) (seen-visible e.kind e.mark es ∙ seen)
-      ∙ ap (λ (xs : List Bytes). names_of_params (params_of (tree_in e)) ++ without_names (names_of_params (params_of (tree_in e)) ++ (sight_in e es).seen) xs) names);
+          (locals
+          ∙ ap (λ (xs : List Bytes). names_of_params (params_of (tree_in e)) ++ without_names (names_of_params (params_of (tree_in e)) ++ xs) e.known.names) (seen-visible e.kind e.mark es ∙ seen)
+          ∙ ap (λ (xs : List Bytes). names_of_params (params_of (tree_in e)) ++ without_names (names_of_params (params_of (tree_in e)) ++ (sight_in e es).seen) xs) names);
     }
 
 -- how many names a block sees of the innermost body
@@ -252,3 +254,67 @@ next-name P S names i x old b less at apart is told =
     by : (c : Bool) → cond (not c) (old ++ x.now ∷ []) old ≡ old ++ cond c [] (x.now ∷ [])
     by true = sym (append-nil old)
     by false = refl
+
+pub next-name-at : (P S : List Bytes) (names : List (Bor Bytes)) (i : ℕ) (d : Bor Bytes) (old : List Bytes) (b : Bool) → i < length names → IsDistinct same (lent names) → old ≡ P ++ without_names (P ++ S) (lent (take i names)) → b ≡ not (is_in (get_or names i d).now old || is_in (get_or names i d).now S) → cond b (old ++ (get_or names i d).now ∷ []) old ≡ P ++ without_names (P ++ S) (lent (take (i + 1) names))
+next-name-at P S names i d old b less apart is told =
+    next-name P S names i (get_or names i d) old b less (sym (get_or_from_slice_get names i (get_or names i d) (get_or names i d) (slice_get-get_or names i d less))) apart is told
+
+-- what a choice is, by its test
+pub where-true : {X : Type 0} (p q r : X) (b : Bool) → b ≡ true → cond b p q ≡ r → p ≡ r
+where-true p q r b is e = sym (ap (λ c. cond c p q) is) ∙ e
+
+pub where-false : {X : Type 0} (p q r : X) (b : Bool) → b ≡ false → cond b p q ≡ r → q ≡ r
+where-false p q r b is e = sym (ap (λ c. cond c p q) is) ∙ e
+
+-- What contracts see of all environments.
+
+pub slot-told : (name : Bytes) (items slice : List Environment) (os : List Open) (n : ℕ) → AreRight (reverse items) → slice ≡ items → map open_of (reverse items) ≡ os → n ≡ slot_of name (scopes_in (reverse slice)) → n ≡ slot_of name (sight os).scopes
+slot-told name items slice os n h same_items view is =
+    slot-are name (reverse items) n h (is ∙ ap (λ es. slot_of name (scopes_in (reverse es))) same_items) ∙ ap (λ (x : List Open). slot_of name (sight x).scopes) view
+
+pub level-told : (name : Bytes) (items slice : List Environment) (os : List Open) (n : ℕ) → AreRight (reverse items) → slice ≡ items → map open_of (reverse items) ≡ os → n ≡ level_of name (scopes_in (reverse slice)) → n ≡ level_of name (sight os).scopes
+level-told name items slice os n h same_items view is =
+    level-are name (reverse items) n h (is ∙ ap (λ es. level_of name (scopes_in (reverse es))) same_items) ∙ ap (λ (x : List Open). level_of name (sight x).scopes) view
+
+pub names-told : (items slice : List Environment) (os : List Open) (names : List Bytes) → AreRight (reverse items) → slice ≡ items → map open_of (reverse items) ≡ os → names ≡ innermost_names (scopes_in (reverse slice)) → names ≡ innermost_names (sight os).scopes
+names-told items slice os names h same_items view is =
+    is ∙ ap (λ es. innermost_names (scopes_in (reverse es))) same_items ∙ ap innermost_names (scopes-are (reverse items) h) ∙ ap (λ (x : List Open). innermost_names (sight x).scopes) view
+
+pub parameters-told : (items slice : List Environment) (os : List Open) (ps : List (Param Node)) → slice ≡ items → map open_of (reverse items) ≡ os → names_of_params (read_params (innermost_texts (map open_of (reverse slice))) ps) ≡ names_of_params (params_of (sight (map open_of (reverse slice))).body) → names_of_params (read_params (innermost_texts os) ps) ≡ names_of_params (params_of (sight os).body)
+parameters-told items slice os ps same_items view is =
+    let slice_view : map open_of (reverse slice) ≡ os = ap (λ es. map open_of (reverse es)) same_items ∙ view in
+    subst (λ (x : List Open). names_of_params (read_params (innermost_texts x) ps) ≡ names_of_params (params_of (sight x).body)) slice_view is
+
+params-as : (k : BodyKind) (t : Tree) (c : Sight) → params_as k t ≡ names_of_params (params_of (sight_as k t c).body)
+params-as File t c = refl
+params-as Home t c = refl
+params-as Block t c = refl
+
+pub params-told : (items slice rest : List Environment) (e : Environment) (os : List Open) (ps : List (Param Node)) → slice ≡ items → map open_of (reverse items) ≡ os → slice ≡ rest ++ e ∷ [] → ((texts : Texts) → names_of_params (read_params texts ps) ≡ params_as e.kind (tree_of texts e.body.now)) → names_of_params (read_params (innermost_texts os) ps) ≡ names_of_params (params_of (sight os).body)
+params-told items slice rest e os ps same_items view is told =
+    let os_is : os ≡ open_of e ∷ map open_of (reverse rest) = sym view ∙ ap (map open_of) (last-first items e rest (sym same_items ∙ is)) in
+    ap (λ (x : List Open). names_of_params (read_params (innermost_texts x) ps)) os_is
+    ∙ told e.symbols.now
+    ∙ params-as e.kind (tree_in e) (sight (map open_of (reverse rest)))
+    ∙ sym (ap (λ (x : List Open). names_of_params (params_of (sight x).body)) os_is)
+
+-- a body more
+pub opened-push : (items new : List Environment) (e : Environment) (o : Open) (os : List Open) → new ≡ items ++ e ∷ [] → open_of e ≡ o → map open_of (reverse items) ≡ os → map open_of (reverse new) ≡ o ∷ os
+opened-push items new e o os is open_is view =
+    ap (map open_of) (last-first new e items is) ∙ ap (λ (x : Open). x ∷ map open_of (reverse items)) open_is ∙ ap (λ (x : List Open). o ∷ x) view
+
+pub right-push : (items slice new : List Environment) (e : Environment) → new ≡ items ++ e ∷ [] → slice ≡ items → IsRight e (reverse slice) → AreRight (reverse items) → AreRight (reverse new)
+right-push items slice new e is same_items right h =
+    subst AreRight (sym (last-first new e items is)) (subst (λ es. IsRight e (reverse es)) same_items right, h)
+
+-- a body less
+pub right-pop : (old new : List Environment) (r : Option Environment) → old ≡ new ++ option_to_list r → AreRight (reverse old) → AreRight (reverse new)
+right-pop old new None is h = subst (λ es. AreRight (reverse es)) (is ∙ append-nil new) h
+right-pop old new (Some e) is h = (subst AreRight (last-first old e new is) h).1
+
+pub opened-pop : (old new : List Environment) (r : Option Environment) (os : List Open) → old ≡ new ++ option_to_list r → MatchOption r (length old ≡ 0) (λ _. Unit {0}) → map open_of (reverse old) ≡ os → map open_of (reverse new) ≡ drop 1 os
+opened-pop old new None os is none view =
+    let gone : old ≡ [] = none-there old none in
+    let new_gone : new ≡ [] = sym (is ∙ append-nil new) ∙ gone in
+    ap (λ es. map open_of (reverse es)) new_gone ∙ sym (ap (λ (x : List Open). drop 1 x) (sym view ∙ ap (λ es. map open_of (reverse es)) gone))
+opened-pop old new (Some e) os is none view = ap (λ (x : List Open). drop 1 x) (sym (ap (map open_of) (last-first old e new is)) ∙ view)

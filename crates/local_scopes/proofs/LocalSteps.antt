@@ -90,6 +90,7 @@ position-push p xs y =
         let below : f < l = less f l is le in
         ap (λ b. cond b (Some f) None) (lt_true f (l + 1) (omega arith))
         ∙ sym (ap (λ b. or_else (cond b (Some f) None) (cond c (Some l) None)) (lt_true f l below))
+
 -- a name more
 pub indexed-push : (names new : List (Bor Bytes)) (old entries : List (Bor Bytes × ℕ)) (name : Bor Bytes) (slot : ℕ) → ((x : Bytes) → slot_of x old ≡ position (same x) (lent names)) → ((x : Bytes) → slot_of x entries ≡ or_else (slot_of x old) (cond (same x name.now) (Some slot) None)) → slot ≡ length names → new ≡ names ++ name ∷ [] → (x : Bytes) → slot_of x entries ≡ position (same x) (lent new)
 indexed-push names new old entries name slot h step count is x =

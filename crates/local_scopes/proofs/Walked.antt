@@ -19,7 +19,7 @@ use Rattle.ruby_tree.specs.Read.{tree_of}
 use Rattle.ruby_tree.specs.Views.{read_kind, read_part, read_param, read_control, read_handler}
 use Rattle.ruby_tree.proofs.Opened.{tree_of-is}
 use Rattle.local_scopes.specs.Gathering.{Gathering, gathered}
-use Rattle.ruby_meaning.specs.Locals.{Gather, Gathered, place_of, of_tree, of_form, of_pieces, of_params, in_two, by_place, by_places}
+use Rattle.ruby_meaning.specs.Locals.{Gather, Gathered, place_of, params_of, params_in, of_tree, of_form, of_pieces, of_params, in_two, by_place, by_places}
 
 -- a tree is walked as its form is
 pub walk-tree : (texts : Texts) (n : Node) (place : ℕ) (all : Gathered) → of_tree place (tree_of texts n) all ≡ of_form place (read_kind texts (out-Node n).kind) all
@@ -28,6 +28,10 @@ walk-tree texts n place all = ap (λ t. of_tree place t all) (tree_of-is texts n
 -- the place of a tree
 pub place-tree : (texts : Texts) (n : Node) → place_of (tree_of texts n) ≡ (out-Node n).place
 place-tree texts n = ap place_of (tree_of-is texts n)
+
+-- the parameters of a tree
+pub params-tree : (texts : Texts) (n : Node) → params_of (tree_of texts n) ≡ params_in (read_kind texts (out-Node n).kind)
+params-tree texts n = ap params_of (tree_of-is texts n)
 
 le_true : (p q : ℕ) → p ≤ q → nat_le p q ≡ true
 le_true p q h = grind (arith, nat_tests)

@@ -6,9 +6,10 @@ ghost use Rattle.ruby_tree.specs.Names.{Texts};
 ghost use Rattle.ruby_tree.specs.FirstFault.{param_name};
 ghost use Rattle.ruby_tree.specs.Read.{tree_of};
 ghost use Rattle.ruby_tree.specs.Views.{read_kind, read_params, read_definition};
-ghost use Rattle.ruby_meaning.specs.Locals.{params_in, names_of_params, without_names};
+ghost use Rattle.ruby_meaning.specs.Locals.{params_of, params_in, names_of_params, without_names};
 ghost use Rattle.ruby_meaning.specs.Levels.{level_of, slot_of};
 ghost use Rattle.local_scopes.specs.Gathering.{gathered};
+ghost use Rattle.local_scopes.specs.Opened.{sight, innermost_names, innermost_texts};
 ghost use Rattle.local_scopes.specs.Environments.{IsRight, AreRight, open_of, visible, seen_names, seen_at, scopes_in, params_as};
 
 use crate::gather::tree;
@@ -81,7 +82,7 @@ fn mark_in(around: &[Environment], place: u64) -> usize
 }
 
 /// The parameters of a body: a file has none.
-pub(crate) fn params_within(kind: BodyKind, body: &Node) -> &[Param<Node>]
+fn params_within(kind: BodyKind, body: &Node) -> &[Param<Node>]
     ensures { (texts : Texts) → names_of_params (read_params texts result.now) ≡ params_as kind (tree_of texts body.now) }
 {
     match kind {
@@ -214,4 +215,24 @@ pub(crate) fn find_in(around: &[Environment], name: &[u8]) -> Local
         rest = seen_within(environment.kind, outer);
     }
     Local { slot: 0, level }
+}
+
+/// The names of the innermost environment.
+pub(crate) fn innermost_names<'e, 'a>(around: &'e [Environment<'a>]) -> &'e [&'a [u8]]
+    ensures { map (λ name. name.now) result.now ≡ innermost_names (scopes_in (reverse around.now)) }
+{
+    match around.split_last() {
+        Some((environment, _)) => environment.locals.names(),
+        None => &[],
+    }
+}
+
+/// The parameters of the innermost body.
+pub(crate) fn innermost_params<'a>(around: &[Environment<'a>]) -> &'a [Param<Node>]
+    ensures { names_of_params (read_params (innermost_texts (map open_of (reverse around.now))) result.now) ≡ names_of_params (params_of (sight (map open_of (reverse around.now))).body) }
+{
+    match around.split_last() {
+        Some((environment, _)) => params_within(environment.kind, environment.body),
+        None => &[],
+    }
 }

@@ -2,11 +2,13 @@
 ghost use Rattle.std.specs.Prelude.{◌≡◌, List, [], ◌∷◌, map, drop, OnOk, OnErr, IfOk};
 ghost use Rattle.ruby_tree.specs.Read.{tree_of};
 ghost use Rattle.ruby_tree.specs.Views.{read_params};
-ghost use Rattle.ruby_meaning.specs.Locals.{params_of, names_of_params, locals_of};
+ghost use Rattle.ruby_meaning.specs.Locals.{params_of, names_of_params};
 ghost use Rattle.ruby_meaning.specs.Levels.{file_sight, body_sight, block_sight, level_of, slot_of};
 ghost use Rattle.local_scopes.specs.Opened.{sights, sight, innermost_names, innermost_texts};
 
-use crate::environments::{Environment, Local, find_in, open_body, params_within};
+use crate::environments::{
+    Environment, Local, find_in, innermost_names, innermost_params, open_body,
+};
 use crate::kinds::BodyKind;
 use bs_outside::NoMemory;
 use ruby_tree::{Node, Param, SymbolTable};
@@ -107,19 +109,13 @@ impl<'a> LocalScopes<'a> {
     pub fn locals(&self) -> &[&'a [u8]]
         ensures { map (λ name. name.now) result.now ≡ innermost_names (sight self.now).scopes }
     {
-        let Some((environment, _)) = self.open.split_last() else {
-            return &[];
-        };
-        environment.locals.names()
+        innermost_names(&self.open)
     }
 
     /// The parameters of the innermost body.
     pub fn params(&self) -> &'a [Param<Node>]
         ensures { names_of_params (read_params (innermost_texts self.now) result.now) ≡ names_of_params (params_of (sight self.now).body) }
     {
-        let Some((environment, _)) = self.open.split_last() else {
-            return &[];
-        };
-        params_within(environment.kind, environment.body)
+        innermost_params(&self.open)
     }
 }

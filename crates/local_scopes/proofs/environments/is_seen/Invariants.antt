@@ -3,8 +3,8 @@ use Rattle.ruby_lexer.specs.Bytes.{is_in}
 use Rattle.local_scopes.specs.Environments.{seen_names}
 use Rattle.local_scopes.proofs.environments.is_seen.Given as goal
 
-abbrev pub invariant-loop-rest : goal.invariant-loop-rest
-invariant-loop-rest l = is_in l.name (seen_names l.count (reverse l.rest)) ≡ is_in l.name (seen_names l.mark (reverse l.around))
+abbrev pub invariant-loop-environment : goal.invariant-loop-environment
+invariant-loop-environment l = is_in l.name (seen_names l.count (reverse l.rest)) ≡ is_in l.name (seen_names l.mark (reverse l.around))
 
-abbrev pub decreases-loop-rest : goal.decreases-loop-rest
-decreases-loop-rest l = length l.rest
+abbrev pub decreases-loop-environment : goal.decreases-loop-environment
+decreases-loop-environment l = length l.rest
