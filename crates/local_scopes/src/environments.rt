@@ -218,13 +218,13 @@ pub(crate) fn find_in(around: &[Environment], name: &[u8]) -> Local
 }
 
 /// The names of the innermost environment.
-pub(crate) fn innermost_names<'e, 'a>(around: &'e [Environment<'a>]) -> &'e [&'a [u8]]
+pub(crate) fn innermost_names<'e>(around: &'e [Environment<'e>]) -> &'e [&'e [u8]]
     ensures { map (λ name. name.now) result.now ≡ innermost_names (scopes_in (reverse around.now)) }
 {
-    match around.split_last() {
-        Some((environment, _)) => environment.locals.names(),
-        None => &[],
-    }
+    let Some((environment, _)) = around.split_last() else {
+        return &[];
+    };
+    environment.locals.names()
 }
 
 /// The parameters of the innermost body.

@@ -106,7 +106,7 @@ impl<'a> LocalScopes<'a> {
     }
 
     /// The names of the innermost environment, in the order of their slots.
-    pub fn locals(&self) -> &[&'a [u8]]
+    pub fn locals(&self) -> &[&[u8]]
         ensures { map (λ name. name.now) result.now ≡ innermost_names (sight self.now).scopes }
     {
         innermost_names(&self.open)
