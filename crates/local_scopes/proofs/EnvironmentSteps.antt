@@ -9,12 +9,13 @@ use Rattle.ruby_lexer.specs.Bytes.{Bytes, same, is_in}
 use Rattle.ruby_tree.specs.declared.node.Param.{Param}
 use Rattle.ruby_tree.specs.declared.node.Param.TheVariants as param
 use Rattle.ruby_tree.specs.declared.node.Node.{Node}
+use Rattle.ruby_tree.specs.declared.node.Node.TheViews.{out-Node}
 use Rattle.ruby_tree.specs.FirstFault.{param_name}
 use Rattle.ruby_tree.specs.Names.{Texts}
 use Rattle.ruby_tree.specs.Tree.{Tree, Params}
 use Rattle.ruby_tree.specs.Read.{tree_of, text_of_name}
-use Rattle.ruby_tree.specs.Views.{read_param, read_params}
-use Rattle.ruby_meaning.specs.Locals.{so_far, names_in, of_tree, place_of, params_of, names_of_params, without_names, locals_of, seen_by}
+use Rattle.ruby_tree.specs.Views.{read_kind, read_param, read_params}
+use Rattle.ruby_meaning.specs.Locals.{so_far, names_in, of_tree, place_of, params_of, params_in, names_of_params, without_names, locals_of, seen_by}
 use Rattle.ruby_meaning.specs.Levels.{Scopes, Sight, level_of, slot_of, slot_in}
 use Rattle.local_scopes.specs.declared.kinds.BodyKind.{BodyKind}
 use Rattle.local_scopes.specs.declared.kinds.BodyKind.TheVariants.{File, Home, Block}
@@ -23,6 +24,7 @@ use Rattle.local_scopes.specs.Gathering.{Gathering, gathered}
 use Rattle.local_scopes.specs.Opened.{Open, sight_as, sight, sights, innermost, innermost_names, innermost_texts}
 use Rattle.local_scopes.specs.Environments.{open_of, visible, seen_names, seen_at, scopes_in, sight_in, params_as, IsRight, AreRight}
 use Rattle.local_scopes.proofs.KnownSteps.{lent, first, placed, lt_true}
+use Rattle.local_scopes.proofs.Walked.{place-tree, params-tree}
 use Rattle.local_scopes.proofs.LocalSteps.{same-swap, below-first}
 
 -- The last of a list is the first of the reversed one.
@@ -318,3 +320,28 @@ opened-pop old new None os is none view =
     let new_gone : new ≡ [] = sym (is ∙ append-nil new) ∙ gone in
     ap (λ es. map open_of (reverse es)) new_gone ∙ sym (ap (λ (x : List Open). drop 1 x) (sym view ∙ ap (λ es. map open_of (reverse es)) gone))
 opened-pop old new (Some e) os is none view = ap (λ (x : List Open). drop 1 x) (sym (ap (map open_of) (last-first old e new is)) ∙ view)
+
+pub right-slice : (items slice : List Environment) → slice ≡ items → AreRight (reverse items) → AreRight (reverse slice)
+right-slice items slice same_items h = subst (λ es. AreRight (reverse es)) (sym same_items) h
+
+pub first-push : (items new : List Environment) (e : Environment) (o : Open) → items ≡ [] → new ≡ items ++ e ∷ [] → open_of e ≡ o → map open_of (reverse new) ≡ o ∷ []
+first-push items new e o none is open_is = opened-push items new e o [] is open_is (ap (λ es. map open_of (reverse es)) none)
+
+pub first-right : (items new : List Environment) (e : Environment) → items ≡ [] → new ≡ items ++ e ∷ [] → IsRight e [] → AreRight (reverse new)
+first-right items new e none is right = subst AreRight (sym (last-first new e items is)) (subst (λ es. IsRight e (reverse es)) (sym none) right, subst (λ es. AreRight (reverse es)) (sym none) tt)
+
+-- the locals of a body that was opened
+pub own-locals : (texts : Texts) (n : Node) (empty params new : List Bytes) (ps : List (Param Node)) (names known : List Bytes) (mark : ℕ) (seen around : List Environment) (k : BodyKind) → empty ≡ [] → params ≡ empty ++ names_of_params (read_params texts ps) → read_params texts ps ≡ params_in (read_kind texts (out-Node n).kind) → new ≡ params ++ without_names (params ++ seen_names mark (reverse seen)) names → names ≡ known → reverse seen ≡ visible k (reverse around) → new ≡ names_of_params (params_of (tree_of texts n)) ++ without_names (names_of_params (params_of (tree_of texts n)) ++ seen_names mark (visible k (reverse around))) known
+own-locals texts n empty params new ps names known mark seen around k none pushed ps_is is same_names outward =
+    let params_are : params ≡ names_of_params (params_of (tree_of texts n)) = pushed ∙ ap (λ (xs : List Bytes). xs ++ names_of_params (read_params texts ps)) none ∙ ap names_of_params (ps_is ∙ sym (params-tree texts n)) in
+    is
+    ∙ ap (λ (xs : List Bytes). xs ++ without_names (xs ++ seen_names mark (reverse seen)) names) params_are
+    ∙ ap (λ (xs : List Bytes). names_of_params (params_of (tree_of texts n)) ++ without_names (names_of_params (params_of (tree_of texts n)) ++ seen_names mark (reverse seen)) xs) same_names
+    ∙ ap (λ es. names_of_params (params_of (tree_of texts n)) ++ without_names (names_of_params (params_of (tree_of texts n)) ++ seen_names mark es) known) outward
+
+-- what a walk from nothing gathers
+pub gathered-tree : (texts : Texts) (n : Node) (old new : Gathering) → ((p : ℕ) → gathered old p ≡ so_far []) → ((p : ℕ) → gathered new p ≡ of_tree p (tree_of texts n) (gathered old p)) → (p : ℕ) → gathered new p ≡ of_tree p (tree_of texts n) (so_far [])
+gathered-tree texts n old new none walked p = walked p ∙ ap (of_tree p (tree_of texts n)) (none p)
+
+pub mark-tree : (texts : Texts) (n : Node) (mark : ℕ) (es : List Environment) → seen_names mark es ≡ seen_at (out-Node n).place es → seen_names mark es ≡ seen_at (place_of (tree_of texts n)) es
+mark-tree texts n mark es is = is ∙ ap (λ p. seen_at p es) (sym (place-tree texts n))
