@@ -1,7 +1,7 @@
 -- The environments of the open bodies, step by step.
-use Rattle.std.proofs.Common.{Bor, ◌≡◌, ℕ, zero, suc, ◌+◌, ◌^◌, ◌<◌, ◌≤◌, List, [], ◌∷◌, ◌++◌, map, length, take, drop, reverse, get_or, nat_eq, nat_lt, cond, Bool, true, false, not, ◌||◌, Option, Some, None, MatchOption, refl, sym, ◌∙◌, ap, subst, arith, length-append, append_assoc, append-nil, add-one}
+use Rattle.std.proofs.Common.{Bor, ◌≡◌, ℕ, zero, suc, ◌+◌, ◌^◌, ◌<◌, List, [], ◌∷◌, ◌++◌, map, length, take, drop, reverse, get_or, nat_lt, cond, Bool, true, false, not, ◌||◌, Option, Some, None, MatchOption, refl, sym, ◌∙◌, ap, subst, arith, append_assoc, append-nil}
 use Rattle.std.specs.Option.{option_to_list}
-use Rattle.std.specs.List.{AllByRecursion, IsDistinct, list_any, position, position_or_len}
+use Rattle.std.specs.List.{AllByRecursion, IsDistinct, position}
 use Rattle.std.proofs.lemmas.Option.{slice_get-get_or, get_or_from_slice_get}
 use Rattle.std.proofs.lemmas.List.{at_drop_more, take_more, map-append, reverse-append}
 use Rattle.std.proofs.lemmas.List.Folds.{list_any-append}
@@ -21,9 +21,9 @@ use Rattle.local_scopes.specs.declared.kinds.BodyKind.{BodyKind}
 use Rattle.local_scopes.specs.declared.kinds.BodyKind.TheVariants.{File, Home, Block}
 use Rattle.local_scopes.specs.declared.environments.Environment.{Environment}
 use Rattle.local_scopes.specs.Gathering.{Gathering, gathered}
-use Rattle.local_scopes.specs.Opened.{Open, sight_as, sight, sights, innermost, innermost_names, innermost_texts}
+use Rattle.local_scopes.specs.Opened.{Open, sight_as, sight, innermost_names, innermost_texts}
 use Rattle.local_scopes.specs.Environments.{open_of, visible, seen_names, seen_at, scopes_in, sight_in, params_as, IsRight, AreRight}
-use Rattle.local_scopes.proofs.KnownSteps.{lent, first, placed, lt_true}
+use Rattle.local_scopes.proofs.KnownSteps.{lent, first, placed}
 use Rattle.local_scopes.proofs.Walked.{place-tree, params-tree}
 use Rattle.local_scopes.proofs.LocalSteps.{same-swap, below-first}
 

@@ -1,14 +1,13 @@
 -- What is gathered, step by step.
-use Rattle.std.proofs.Common.{Bor, ◌≡◌, ℕ, zero, suc, ◌+◌, ◌^◌, ◌<◌, ◌≤◌, List, [], ◌∷◌, ◌++◌, map, length, take, get_or, nat_eq, nat_lt, cond, if◌then◌else◌, Bool, true, false, not, ◌||◌, Option, Some, None, IfSome, is_some, refl, sym, ◌∙◌, ap, subst, arith, length-append}
+use Rattle.std.proofs.Common.{Bor, ◌≡◌, ℕ, zero, suc, ◌+◌, ◌^◌, ◌<◌, ◌≤◌, List, [], ◌∷◌, ◌++◌, map, length, take, nat_eq, nat_lt, cond, if◌then◌else◌, Bool, true, false, not, ◌||◌, Option, Some, None, IfSome, is_some, refl, sym, ◌∙◌, ap, subst, arith, length-append}
 use Rattle.std.specs.List.{AllByRecursion, IsDistinct, list_any, position, position_or_len}
 use Rattle.std.specs.Map.{lookup}
-use Rattle.std.specs.Option.{option_copied}
 use Rattle.std.proofs.lemmas.Bool.{eqb-true, ltb-true, ltb-false}
 use Rattle.std.proofs.lemmas.Bool.Decides.{nat_tests}
 use Rattle.std.proofs.lemmas.List.{length-map, map-append, take-append-le, take_all}
 use Rattle.indexmap.specs.IndexMap.{insert_entry}
 use Rattle.ruby_lexer.specs.Bytes.{Bytes, same, is_in}
-use Rattle.ruby_meaning.specs.Locals.{Gathered, so_far, reached, names_in, with_local, at_block}
+use Rattle.ruby_meaning.specs.Locals.{so_far, reached, names_in, with_local, at_block}
 use Rattle.local_scopes.specs.Gathering.{Gathering, at_mark, gathered, AreMarks}
 
 -- the texts that are lent

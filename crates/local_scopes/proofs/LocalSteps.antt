@@ -1,7 +1,7 @@
 -- The index of the names of an environment, step by step.
-use Rattle.std.proofs.Common.{Bor, ◌≡◌, ℕ, zero, suc, ◌+◌, ◌<◌, ◌≤◌, List, [], ◌∷◌, ◌++◌, map, length, nat_eq, nat_lt, cond, Bool, true, false, not, ◌||◌, Option, Some, None, is_some, refl, sym, ◌∙◌, ap, subst, arith, length-append, add-zero}
+use Rattle.std.proofs.Common.{Bor, ◌≡◌, ℕ, suc, ◌+◌, ◌<◌, ◌≤◌, List, [], ◌∷◌, ◌++◌, length, nat_eq, nat_lt, cond, Bool, true, false, not, ◌||◌, Option, Some, None, is_some, refl, sym, ◌∙◌, ap, arith, length-append, add-zero}
 use Rattle.std.specs.Bool.{Decides}
-use Rattle.std.specs.List.{list_any, position, position_or_len}
+use Rattle.std.specs.List.{position, position_or_len}
 use Rattle.std.proofs.lemmas.Bool.{eqb-true}
 use Rattle.std.proofs.lemmas.Bool.Decides.{Decides-eqb, nat_tests}
 use Rattle.std.proofs.lemmas.List.{map-append, length-map}

@@ -61,7 +61,11 @@ fn a_block(rt: HostRuntime) -> Result<(), Fail> {
     let program = read_program(alloc, b"a = 1\nf { |b| c = a }\nc = 3\n")?;
     let mut scopes = LocalScopes::in_file(alloc, &program.symbols, &program.root)?;
     assert_eq!(rt; scopes.locals().len(), 2);
-    scopes.enter_block(alloc, &program.symbols, block(statement(&program.root, 1)?)?)?;
+    scopes.enter_block(
+        alloc,
+        &program.symbols,
+        block(statement(&program.root, 1)?)?,
+    )?;
     assert!(rt; is_at(&scopes, b"b", 0, 0));
     assert!(rt; is_at(&scopes, b"c", 1, 0));
     assert!(rt; is_at(&scopes, b"a", 0, 1));
@@ -82,7 +86,11 @@ fn parts_in_the_order_of_the_text(rt: HostRuntime) -> Result<(), Fail> {
     scopes.enter_block(alloc, &program.symbols, block(statement(first, 0)?)?)?;
     assert!(rt; is_at(&scopes, b"x", 0, 0));
     scopes.leave();
-    scopes.enter_block(alloc, &program.symbols, block(statement(&program.root, 1)?)?)?;
+    scopes.enter_block(
+        alloc,
+        &program.symbols,
+        block(statement(&program.root, 1)?)?,
+    )?;
     assert!(rt; is_at(&scopes, b"x", 0, 1));
     assert_eq!(rt; scopes.locals().len(), 0);
     Ok(())

@@ -1,4 +1,4 @@
-use Rattle.std.proofs.Common.{Bor, Vec, sym, ap, ◌∙◌, arith}
+use Rattle.std.proofs.Common.{sym, ap, ◌∙◌, arith}
 use Rattle.std.specs.List.{position}
 use Rattle.ruby_lexer.specs.Bytes.{same}
 use Rattle.local_scopes.proofs.KnownSteps.{lent}

@@ -1,4 +1,3 @@
-use Rattle.std.proofs.Common.{ap, ◌∙◌}
 use Rattle.local_scopes.proofs.EnvironmentSteps.{names-told}
 use Rattle.local_scopes.proofs.scopes.LocalScopes.locals.Goals as goal
 
