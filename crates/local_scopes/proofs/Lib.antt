@@ -1,0 +1,4 @@
+pub mod EnvironmentSteps
+pub mod KnownSteps
+pub mod LocalSteps
+pub mod Walked
