@@ -48,20 +48,28 @@ held_rows h k far q a s w inner outer = ap (λ rs. set_begin (length behind_rows
   where
     behind_rows : List HeldRow
     behind_rows = (grown h s w).rows
+
     place : ℕ
     place = length (grown h s w).steps
+
     row : HeldRow
     row = row_here k far q h (grown h s w)
+
     inner_rows : List HeldRow
     inner_rows = kept h a place
+
     count : ℕ
     count = length (grown h a (row_opened k far q h (grown h s w))).steps
+
     together : (grown h a (row_opened k far q h (grown h s w))).rows ≡ behind_rows ++ row ∷ inner_rows
     together = inner ∙ append_assoc behind_rows (row ∷ []) inner_rows
+
     places : place ≡ size s + length w.steps
     places = grown_length h s w
+
     counts : count ≡ size a + place
     counts = grown_length h a (row_opened k far q h (grown h s w))
+
     counted : begins_at count row ∷ inner_rows ≡ record { kind = k; from = size a + (size s + length w.steps); to = size s + length w.steps; far = far; sp = h; seq = q } ∷ kept h a (size s + length w.steps)
     counted = ap (λ n. record { kind = k; from = n; to = place; far = far; sp = h; seq = q } ∷ kept h a place) counts ∙ ap (λ n. record { kind = k; from = size a + n; to = n; far = far; sp = h; seq = q } ∷ kept h a n) places
 

@@ -40,10 +40,13 @@ held_table h k far x a s n p q is inner outer = rows_joined n (kept h s q) (row 
   where
     row : HeldRow
     row = record { kind = k; from = size a + (size s + q); to = size s + q; far = far; sp = h; seq = x }
+
     begins : n - (size a + (size s + q)) ≡ p
     begins = omega (arith, is)
+
     ends : n - (size s + q) ≡ finish p a
     ends = let e = finish_size a p in omega (arith, is)
+
     over : row_among n row ∷ [] ≡ row_over k h p (finish p a) far x ∷ []
     over = ap (λ b. record { kind = k; from = b; to = n - (size s + q); cont = n - (size s + q) + far; sp = h; seq = x } ∷ []) begins ∙ ap (λ e. record { kind = k; from = p; to = e; cont = e + far; sp = h; seq = x } ∷ []) ends
 
