@@ -96,28 +96,19 @@ fn add_assignment(found: &mut Vec<u64>, assignment: &Assignment<Node>) -> Result
             add_tree(found, receiver)?;
             add_tree(found, value)
         }
-        Assignment::Index(receiver, index, value) => add_three(found, receiver, index, value),
-        Assignment::IndexOperator(receiver, index, value, _, _) => {
-            add_three(found, receiver, index, value)
+        Assignment::Index(receiver, index, value)
+        | Assignment::IndexOr(receiver, index, value)
+        | Assignment::IndexAnd(receiver, index, value) => {
+            add_tree(found, receiver)?;
+            add_tree(found, index)?;
+            add_tree(found, value)
         }
-        Assignment::IndexOr(receiver, index, value) => add_three(found, receiver, index, value),
-        Assignment::IndexAnd(receiver, index, value) => add_three(found, receiver, index, value),
+        Assignment::IndexOperator(receiver, index, value, _, _) => {
+            add_tree(found, receiver)?;
+            add_tree(found, index)?;
+            add_tree(found, value)
+        }
     }
-}
-
-/// Adds the places in three trees.
-#[cycle(walk)]
-fn add_three(
-    found: &mut Vec<u64>,
-    first: &Node,
-    second: &Node,
-    third: &Node,
-) -> Result<(), NoMemory>
-    ensures { OnOk result (found.new.items ≡ found.old.items ++ (places (tree_of [] first.now) ++ (places (tree_of [] second.now) ++ places (tree_of [] third.now)))) }
-{
-    add_tree(found, first)?;
-    add_tree(found, second)?;
-    add_tree(found, third)
 }
 
 /// Adds the places in the receiver, the arguments and the block.

@@ -36,9 +36,6 @@ decreases-lists::add_part l = 5 * goal.size-lists::add_part l + 1
 abbrev pub decreases-lists::add_param : goal.decreases-lists::add_param
 decreases-lists::add_param l = 5 * goal.size-lists::add_param l + 1
 
-abbrev pub decreases-walk::add_three : goal.decreases-walk::add_three
-decreases-walk::add_three l = 5 * goal.size-walk::add_three l + 1
-
 abbrev pub decreases-lists::add_pairs : goal.decreases-lists::add_pairs
 decreases-lists::add_pairs l = 5 * goal.size-lists::add_pairs l + 2
 

@@ -1,4 +1,4 @@
-use Rattle.std.proofs.Common.{◌≡◌, nat_lt, suc, ap, sym, subst, ◌∙◌, add-one}
+use Rattle.std.proofs.Common.{◌≡◌, nat_lt, suc, ap, sym, subst, ◌∙◌, add-one, rules}
 use Rattle.std.specs.List.Sorted.{IsNonDecreasing}
 use Rattle.std.proofs.lemmas.List.Sorted.{IsPartitionPoint-from_clause, IsPartitionedBy-ltb}
 use Rattle.ruby_meaning.specs.Sequences.{count_below}
