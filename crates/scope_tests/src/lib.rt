@@ -1,5 +1,7 @@
-//! Tests of the environments of locals, with ample memory.
+//! Tests of the environments of locals and of the numbers of sequences, with ample memory.
 #![tactic(auto)]
 
 #[cfg(test)]
 mod environments;
+#[cfg(test)]
+mod numbers;
