@@ -16,6 +16,7 @@ pub mod FoundTrees
 pub mod FoundPrograms
 pub mod ToldTrees
 pub mod ToldPrograms
+pub mod ToldRuns
 pub mod ProgramsRun
 pub mod ReadText
 pub mod ShapeDepths

@@ -40,7 +40,7 @@ told_kind kinds.Rescue s u is = absurd is
 told_kind kinds.Ensure s u is = absurd is
 
 -- what is told by a kind is told of a body
-kind_told : (k : SeqKind) (s y : Sight) (u t : Tree) → told_in k s u ≡ Some (y, t) → IsBodyKind k × ((s, u) ≡ (y, t))
+kind_told : (k : SeqKind) (s y : Sight) (u t : Tree) → told_in k s u ≡ Some (y, t) → IsBodyKind k × (◌≡◌ {A = Sight × Tree} (s, u) (y, t))
 kind_told kinds.File s y u t e = (tt, same_Some (s, u) (y, t) e)
 kind_told kinds.Method s y u t e = (tt, same_Some (s, u) (y, t) e)
 kind_told kinds.Class s y u t e = (tt, same_Some (s, u) (y, t) e)
