@@ -1,6 +1,7 @@
 -- Each code that stands in a world that a plain run reaches is one of the unit of its file.
 use Rattle.std.proofs.Common.{◌≡◌, ℕ, refl, subst, List, [], length, Option, Some, None}
-use Rattle.std.specs.Prelude.{slice_get}
+use Rattle.std.specs.Prelude.{nat_eq, slice_get}
+use Rattle.std.specs.List.{IsDistinct}
 use Rattle.bs_outside.specs.SourceTree.{SourceTree, bytes_at}
 use Rattle.ruby_tree.specs.Names.{Bytes}
 use Rattle.ruby_tree.specs.Tree.{Tree}
@@ -37,9 +38,13 @@ file_kept not_there = tt
 file_kept (has_fault h) = tt
 file_kept (has_tree {f = f} {t = t} h) = record { formed = text_formed f t h; housed = housed f t h; apart = places_apart f t h }
 
+none_twice : IsDistinct nat_eq []
+unfolding IsDistinct
+none_twice = tt
+
 prelude_kept : (t : Tree) → IsPrelude t → IsKept t
 prelude_kept t (is_read h) = record { formed = text_formed prelude_text t h; housed = housed prelude_text t h; apart = places_apart prelude_text t h }
-prelude_kept t (is_unread h) = record { formed = tt; housed = tt; apart = tt }
+prelude_kept t (is_unread h) = record { formed = tt; housed = tt; apart = none_twice }
 
 module _ (source : SourceTree) (files : Files) (prelude : Tree) (are : (path : Bytes) → IsRubyFile (bytes_at source path) (files.ruby path)) (is : IsPrelude prelude) where
   fine : (path : Bytes) (t : Tree) → files.ruby path ≡ ruby_tree t → IsKept t
@@ -53,12 +58,12 @@ module _ (source : SourceTree) (files : Files) (prelude : Tree) (are : (path : B
 
   module _ (w : World) (stored : IsStored w) (held : WorldHoused (told_by files prelude) w) where
     pub method_of_file : (x : Bytes) (ps : List Place) (f : Found) (code : Code) → find_in w.objects x ps ≡ Some f → f.body ≡ written code → IsOfItsFile files prelude [] code
-    method_of_file x ps f code e b = method_found files prelude fine (prelude_kept prelude is) code (found_stands (told_by files prelude) w stored held x ps f code e b).1.0
+    method_of_file x ps f code e b = method_found files prelude fine (prelude_kept prelude is) code (found_stands (told_by files prelude) w stored held x ps f code e b).1
 
     pub block_of_file : (i : ℕ) (d : Closure) → slice_get w.closures i ≡ Some d → (scopes : Scopes) × IsOfItsFile files prelude scopes d.code × HaveNames (length w.environments) scopes w.environments (Some d.environment)
     block_of_file i d e =
         let k = (closure_stands (told_by files prelude) w stored held i d e).1 in
-        (k.0.scopes, (block_found files prelude fine (prelude_kept prelude is) k.0 w.environments d k.1, k.1.scopes))
+        (k.0.scopes, block_found files prelude fine (prelude_kept prelude is) k.0 w.environments d k.1, k.1.scopes)
 
 module _ (reader : DataReader) (source : SourceTree) where
   pub run_told : (fuel : ℕ) (b : Tree → Frame → Run) → StaysHoused (told_by (files_of reader source) prelude_of_text) b → StaysHoused (told_by (files_of reader source) prelude_of_text) (run (files_of reader source) fuel b)
