@@ -7,12 +7,12 @@ use Rattle.ruby_tree.specs.Names.{Bytes}
 use Rattle.ruby_tree.specs.Tree.{Tree}
 use Rattle.iseq_types.specs.declared.sequences.SeqKind.{SeqKind}
 use Rattle.iseq_types.specs.declared.sequences.SeqKind.TheVariants as kinds
-use Rattle.ruby_meaning.specs.Value.{Source, Code}
+use Rattle.ruby_meaning.specs.Value.{Code}
 use Rattle.ruby_meaning.specs.World.{Environment, Closure}
 use Rattle.ruby_meaning.specs.Locals.{place_of, first_line_of, locals_of}
 use Rattle.ruby_meaning.specs.Sequences.{places, sequence_number}
 use Rattle.ruby_meaning.specs.Files.{Files, RubyFile, no_ruby, ruby_fault, ruby_tree}
-use Rattle.ruby_meaning.specs.Levels.{Scopes, Sight, file_sight, body_sight, block_sight, BodyTable, Told, IsHoused}
+use Rattle.ruby_meaning.specs.Levels.{Scopes, Sight, file_sight, body_sight, block_sight, BodyTable, IsHoused}
 use Rattle.ruby_meaning.specs.Housed.{source_of, CodeHoused, MadeIn, AreHoused}
 use Rattle.compile_table.specs.Sequences.{Compiled, in_file, compiled_file, sequences_of, sequence_at, routines, bodies}
 use Rattle.tree_laws.specs.Formed.{IsFormed}

@@ -1,5 +1,5 @@
 -- Each code that stands in a world that a plain run reaches is one of the unit of its file.
-use Rattle.std.proofs.Common.{◌≡◌, ℕ, refl, subst, List, [], length, Option, Some, None}
+use Rattle.std.proofs.Common.{◌≡◌, ℕ, subst, List, [], length, Option, Some, None}
 use Rattle.std.specs.Prelude.{nat_eq, slice_get}
 use Rattle.std.specs.List.{IsDistinct}
 use Rattle.bs_outside.specs.SourceTree.{SourceTree, bytes_at}
@@ -16,7 +16,7 @@ use Rattle.ruby_meaning.specs.Evaluation.{run, evaluate}
 use Rattle.ruby_meaning.specs.Levels.{Scopes, file_sight, IsHoused}
 use Rattle.ruby_meaning.specs.InSight.{HaveNames}
 use Rattle.ruby_meaning.specs.Stored.{IsStored}
-use Rattle.ruby_meaning.specs.Housed.{source_of, MadeIn, WorldHoused, StaysHoused, AreHoused}
+use Rattle.ruby_meaning.specs.Housed.{source_of, WorldHoused, StaysHoused, AreHoused}
 use Rattle.ruby_meaning.proofs.OneAnswer.{files_are}
 use Rattle.ruby_meaning.proofs.PlacedFiles.{files_of_placed, prelude_of_text_is_read, prelude_of_text_placed}
 use Rattle.ruby_meaning.proofs.PlacedFrames.{found_stands, closure_stands}

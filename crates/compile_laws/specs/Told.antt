@@ -1,7 +1,6 @@
 -- The bodies of the files of a run and of its prelude, each where its file's program has its sequence; and the codes that are found so.
-use Rattle.std.specs.Prelude.{◌≡◌, ℕ, cond, List, Option, Some, None, ⊤}
+use Rattle.std.specs.Prelude.{◌≡◌, ℕ, cond, Option, Some, None}
 use Rattle.ruby_lexer.specs.Bytes.{same}
-use Rattle.ruby_tree.specs.Names.{Bytes}
 use Rattle.ruby_tree.specs.Tree.{Tree}
 use Rattle.iseq_types.specs.declared.sequences.SeqKind.{SeqKind}
 use Rattle.iseq_types.specs.declared.sequences.SeqKind.TheVariants as kinds
