@@ -1,10 +1,11 @@
 -- Each code that stands in a world that a plain run reaches is one of the unit of its file.
-use Rattle.std.proofs.Common.{◌≡◌, ℕ, subst, List, [], length, Option, Some, None}
+use Rattle.std.proofs.Common.{refl, ◌≡◌, ℕ, subst, List, [], length, Option, Some, None}
 use Rattle.std.specs.Prelude.{nat_eq, slice_get}
 use Rattle.std.specs.List.{IsDistinct}
 use Rattle.bs_outside.specs.SourceTree.{SourceTree, bytes_at}
 use Rattle.ruby_tree.specs.Names.{Bytes}
-use Rattle.ruby_tree.specs.Tree.{Tree}
+use Rattle.ruby_tree.specs.Tree.{SourcePosition, Tree, at, class, module_named, Other}
+use Rattle.ruby_tree.specs.Placement.{Around}
 use Rattle.ruby_meaning.specs.Value.{Code, written}
 use Rattle.ruby_meaning.specs.Store.{Place, Found, find_in}
 use Rattle.ruby_meaning.specs.World.{Closure, World, Frame, Run, world_of}
@@ -14,6 +15,9 @@ use Rattle.ruby_meaning.specs.Prelude.{prelude_text}
 use Rattle.ruby_meaning.specs.PlainRun.{Program, IsPrelude, is_read, is_unread, prelude_of_text, program_run, start_world}
 use Rattle.ruby_meaning.specs.Evaluation.{run, evaluate}
 use Rattle.ruby_meaning.specs.Levels.{Scopes, file_sight, IsHoused}
+use Rattle.ruby_meaning.specs.Levels.{Sight, body_sight, Told}
+use Rattle.ruby_meaning.specs.Housed.{InPlace}
+use Rattle.compile_laws.specs.Calling.{opened_frame}
 use Rattle.ruby_meaning.specs.InSight.{HaveNames}
 use Rattle.ruby_meaning.specs.Stored.{IsStored}
 use Rattle.ruby_meaning.specs.Housed.{source_of, WorldHoused, StaysHoused, AreHoused}
@@ -64,6 +68,19 @@ module _ (source : SourceTree) (files : Files) (prelude : Tree) (are : (path : B
     block_of_file i d e =
         let k = (closure_stands (told_by files prelude) w stored held i d e).1 in
         (k.0.scopes, block_found files prelude fine (prelude_kept prelude is) k.0 w.environments d k.1, k.1.scopes)
+
+  -- the code of the body that a class or a module opens where it is in place
+  opened_of_file : (frame : Frame) (line k : ℕ) (a : Tree) (z : World) → IsHoused (told_by files prelude frame.code.source) (body_sight a) a × Told (told_by files prelude frame.code.source) (body_sight a) a →
+      IsOfItsFile files prelude [] (opened_frame frame line a k z).code
+  opened_of_file frame line k a z h = method_found files prelude fine (prelude_kept prelude is) (opened_frame frame line a k z).code (record { seen = refl; locals = refl; housed = h.0; told_body = h.1 })
+
+  pub class_of_file : (c : Around) (s : Sight) (o : SourcePosition) (v : Other) (x : Bytes) (a : Tree) (frame : Frame) (w : World) → InPlace (told_by files prelude) c s (at o (class v x a)) frame w → (line k : ℕ) (z : World) →
+      IsOfItsFile files prelude [] (opened_frame frame line a k z).code
+  class_of_file c s o v x a frame w h line k z = opened_of_file frame line k a z h.housed.1
+
+  pub module_of_file : (c : Around) (s : Sight) (o : SourcePosition) (x : Bytes) (a : Tree) (frame : Frame) (w : World) → InPlace (told_by files prelude) c s (at o (module_named x a)) frame w → (line k : ℕ) (z : World) →
+      IsOfItsFile files prelude [] (opened_frame frame line a k z).code
+  module_of_file c s o x a frame w h line k z = opened_of_file frame line k a z h.housed
 
 module _ (reader : DataReader) (source : SourceTree) where
   pub run_told : (fuel : ℕ) (b : Tree → Frame → Run) → StaysHoused (told_by (files_of reader source) prelude_of_text) b → StaysHoused (told_by (files_of reader source) prelude_of_text) (run (files_of reader source) fuel b)
