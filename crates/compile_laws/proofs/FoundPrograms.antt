@@ -20,13 +20,13 @@ wheres path t n = (sequence_at path t n).inner
 
 module _ (path : Bytes) (t : Tree) (fm : IsFormed false t) (hs : IsHoused None (file_sight t) t) (apart : IsDistinct nat_eq (places t)) where
   -- those that stand in the file
-  abbrev within : List Compiled
+  abbrev pub within : List Compiled
   within = sequences (in_file path t) t
 
   told : Told (routines path t) (bodies path t) (wheres path t) path t path (places t) (Sees (routines path t) (bodies path t) (wheres path t) path t (in_file path t)) (Finds (routines path t) (bodies path t) (in_file path t) t) within (places t)
   told = tree_told (routines path t) (bodies path t) (wheres path t) path t t (in_file path t) fm hs
 
-  at_number : (e : Compiled) → In e within → sequence_at path t (sequence_number (places t) e.place) ≡ e
+  pub at_number : (e : Compiled) → In e within → sequence_at path t (sequence_number (places t) e.place) ≡ e
   unfolding sequence_at
   at_number e i =
       subst (λ qs. get_or (sequences_of path t) (suc (count_below e.place qs)) (compiled_file path t) ≡ e) told.same
@@ -61,6 +61,9 @@ module _ (path : Bytes) (t : Tree) (fm : IsFormed false t) (hs : IsHoused None (
 
   pub all_known : All (IsOfProgram path t) (sequences_of path t)
   all_known = All-from_recursion (IsOfProgram path t) (sequences_of path t) (file_known, by_all (IsOfProgram path t) within (all_of (IsOfProgram path t) within known))
+
+  pub each_known : AllByRecursion (IsOfProgram path t) (sequences_of path t)
+  each_known = (file_known, by_all (IsOfProgram path t) within (all_of (IsOfProgram path t) within known))
 
   -- each stands in the table where its number says
   pub numbered : (n : ℕ) → n < length (sequences_of path t) → (sequence_at path t n).inner.number ≡ n

@@ -120,6 +120,22 @@ module _ (unit : Tables) where
     outside = refl;
   }
 
+  -- the body of a class, where its code is one whose nodes stand there
+  pub opened_begins : (l : Where) (frame : Frame) (line : ℕ) (t : Tree) (c : ℕ) (w : World) → IsCodeAt unit l [] (opened_frame frame line t c w).code → Begins unit l t (opened_frame frame line t c w) (class_world frame t w)
+  opened_begins l frame line t c w is = record {
+    no_loop = is.no_loop;
+    no_clause = is.no_clause;
+    stands = record { of_first = is.first; of_path = is.path; of_places = is.places; of_body = is.body };
+    sight = record {
+      body = is.body;
+      seen = is.seen;
+      scopes = subst (λ s. HasScopes s (opened_frame frame line t c w) (class_world frame t w)) (sym is.sight)
+          (nil_scopes (locals_of [] t) (opened_frame frame line t c w) (with_cells (environment_cells (length (locals_of [] t))) (at_class frame t w)) refl);
+    };
+    finds = is.finds;
+    outside = refl;
+  }
+
   -- a file, whatever asks for it, and the prelude
   pub file_begins : (path : Bytes) (load : Option ℕ) (t : Tree) (outside : Option (Bytes × ℕ)) (running calling : List ℕ) (w : World) → FindsBody unit.seqs unit.bodies (in_file path t) (file_body t)
       → Begins unit (in_file path t) (file_body t) (file_frame (file_code path load t) (next_environment w) outside running calling) (with_environment None (all_nil (locals_of [] t)) w)

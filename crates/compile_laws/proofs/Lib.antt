@@ -14,6 +14,9 @@ pub mod BodyRuns
 pub mod ByPlaces
 pub mod FoundTrees
 pub mod FoundPrograms
+pub mod ToldTrees
+pub mod ToldPrograms
+pub mod ToldRuns
 pub mod ProgramsRun
 pub mod ReadText
 pub mod ShapeDepths

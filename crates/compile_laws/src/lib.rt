@@ -8,3 +8,4 @@ pub mod found;
 pub mod frames;
 pub mod sound;
 pub mod soundness;
+pub mod told;

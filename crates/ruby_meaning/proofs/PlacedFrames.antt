@@ -18,7 +18,7 @@ use Rattle.ruby_meaning.specs.Evaluation.{evaluate}
 use Rattle.ruby_meaning.specs.ClassGraph.{StoreLeads}
 use Rattle.ruby_meaning.specs.Laws.{names_in, EnvironmentsStay}
 use Rattle.ruby_meaning.specs.RunLaws.{Allowed}
-use Rattle.ruby_meaning.specs.Levels.{Scopes, Sight, file_sight, body_sight, names_seen, block_sight, Telling, Told, IsHoused}
+use Rattle.ruby_meaning.specs.Levels.{Scopes, Sight, file_sight, body_sight, names_seen, block_sight, Telling, IsHoused}
 use Rattle.ruby_meaning.specs.InSight.{HaveNames}
 use Rattle.reference_laws.specs.Placed.{home_of, IsPlaced}
 use Rattle.ruby_meaning.specs.Stored.{IsClass, AreClasses, BodyIs, class_of_place, CodeStored, StoredIn, ClosureStored, IsStored, FrameFits}
