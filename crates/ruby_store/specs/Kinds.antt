@@ -13,3 +13,12 @@ told_kind (meant.span a b e) = sort.Range
 told_kind (meant.closed k) = sort.Proc
 told_kind (meant.plain c) = sort.Plain
 told_kind (meant.class_or_module c) = sort.Class
+
+abbrev pub is_elements : meant.Kind → Bool
+is_elements (meant.string f) = false
+is_elements (meant.elements vs) = true
+is_elements (meant.table ps d) = false
+is_elements (meant.span a b e) = false
+is_elements (meant.closed k) = false
+is_elements (meant.plain c) = false
+is_elements (meant.class_or_module c) = false

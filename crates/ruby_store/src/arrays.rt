@@ -1,11 +1,13 @@
 //! Arrays.
 ghost use Rattle.std.specs.Prelude.{◌≡◌, [], length};
 ghost use Rattle.ruby_meaning.specs.Value as meant;
-ghost use Rattle.ruby_meaning.specs.Store.{array_cells, new_object};
+ghost use Rattle.ruby_meaning.specs.Store.{array_cells, kind_at, new_object};
+ghost use Rattle.ruby_store.specs.Cells.{Takes, OnFull, cost_if};
 ghost use Rattle.ruby_store.specs.Changes.{Makes};
-ghost use Rattle.ruby_store.specs.Model.{Reading, values_of};
+ghost use Rattle.ruby_store.specs.Kinds.{is_elements};
+ghost use Rattle.ruby_store.specs.Model.{Reading, objects_of, values_of};
 
-use crate::object_parts::{Content, ObjectKind};
+use crate::object_parts::Content;
 use crate::{ObjectId, Store, StoreFault, Value};
 use std::alloc::Global;
 use store_parts::Elements;
@@ -22,9 +24,12 @@ impl Store {
     pub fn new_array_of(&mut self, alloc: Global, values: &[Value]) -> Result<ObjectId, StoreFault>
         ensures { Makes (array_cells (length values.now)) (λ read. new_object (meant.elements (values_of read values.now))) self.old result self.new }
     {
-        let cells = self.charged((values.len() as u64).saturating_add(1))?;
         let elements = Elements::from_slice(alloc, values)?;
-        Ok(self.add_object(cells, Content::Array(elements), false)?)
+        self.make(
+            (values.len() as u64).saturating_add(1),
+            Content::Array(elements),
+            false,
+        )
     }
 
     /// The elements of an Array.
@@ -44,8 +49,11 @@ impl Store {
         id: ObjectId,
         place: usize,
         value: Value,
-    ) -> Result<(), StoreFault> {
-        let cells = self.charged(self.cells_if_array(id, 1))?;
+    ) -> Result<(), StoreFault>
+        ensures cells { (read : Reading) → Takes self.old.cells (cost_if (is_elements (kind_at (objects_of read self.old) id.number)) (1)) result self.new.cells }
+        ensures full { OnFull result (self.new ≡ self.old) }
+    {
+        let cells = self.charged(if self.is_array(id) { 1 } else { 0 })?;
         if let Some(object) = self.objects.get_mut(id.number)
             && let Content::Array(elements) = &mut object.content
         {
@@ -55,18 +63,23 @@ impl Store {
         Ok(())
     }
 
-    /// So many cells, or none where it is no Array.
-    fn cells_if_array(&self, id: ObjectId, cells: u64) -> u64 {
-        if self.kind(id) == ObjectKind::Array {
-            cells
-        } else {
-            0
+    /// Whether an Array has this number.
+    #[tactic(auto, using(crate::proofs::Standing::kind_some, crate::proofs::Standing::kind_none))]
+    fn is_array(&self, id: ObjectId) -> bool
+        ensures { (read : Reading) → result ≡ is_elements (kind_at (objects_of read self.now) id.number) }
+    {
+        match self.objects.get(id.number) {
+            Some(object) => object.content.is_array(),
+            None => false,
         }
     }
 
     /// Adds an element behind the last.
-    pub fn array_push(&mut self, id: ObjectId, value: Value) -> Result<(), StoreFault> {
-        let cells = self.charged(self.cells_if_array(id, 1))?;
+    pub fn array_push(&mut self, id: ObjectId, value: Value) -> Result<(), StoreFault>
+        ensures cells { (read : Reading) → Takes self.old.cells (cost_if (is_elements (kind_at (objects_of read self.old) id.number)) (1)) result self.new.cells }
+        ensures full { OnFull result (self.new ≡ self.old) }
+    {
+        let cells = self.charged(if self.is_array(id) { 1 } else { 0 })?;
         if let Some(object) = self.objects.get_mut(id.number)
             && let Content::Array(elements) = &mut object.content
         {
@@ -77,8 +90,15 @@ impl Store {
     }
 
     /// Adds these elements behind the last.
-    pub fn array_extend(&mut self, id: ObjectId, values: &[Value]) -> Result<(), StoreFault> {
-        let cells = self.charged(self.cells_if_array(id, values.len() as u64))?;
+    pub fn array_extend(&mut self, id: ObjectId, values: &[Value]) -> Result<(), StoreFault>
+        ensures cells { (read : Reading) → Takes self.old.cells (cost_if (is_elements (kind_at (objects_of read self.old) id.number)) (length values.now)) result self.new.cells }
+        ensures full { OnFull result (self.new ≡ self.old) }
+    {
+        let cells = self.charged(if self.is_array(id) {
+            values.len() as u64
+        } else {
+            0
+        })?;
         if let Some(object) = self.objects.get_mut(id.number)
             && let Content::Array(elements) = &mut object.content
         {

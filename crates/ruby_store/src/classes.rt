@@ -1,6 +1,7 @@
 //! Classes and modules.
-ghost use Rattle.std.specs.Prelude.{◌≡◌};
-ghost use Rattle.ruby_meaning.specs.Store.{class_of, class_of_kind, is_class_or_module, kind_at};
+ghost use Rattle.std.specs.Prelude.{◌≡◌, OnOk};
+ghost use Rattle.ruby_meaning.specs.Store.{class_cells, class_of, class_of_kind, is_class_or_module, kind_at};
+ghost use Rattle.ruby_store.specs.Cells.{Takes, OnFull};
 ghost use Rattle.ruby_store.specs.Model.{Reading, objects_of, value_of};
 
 use crate::object_parts::{Class, Content};
@@ -50,6 +51,8 @@ impl Store {
         name: Name,
         above: Option<ClassId>,
     ) -> Result<ClassId, StoreFault>
+        ensures cells { Takes self.old.cells (class_cells) result self.new.cells }
+        ensures full { OnFull result (self.new ≡ self.old) }
     {
         let cells = self.charged(4)?;
         let above = match above {
@@ -61,6 +64,8 @@ impl Store {
 
     /// Makes a module.
     pub fn new_module(&mut self, alloc: Global, name: Name) -> Result<ClassId, StoreFault>
+        ensures cells { Takes self.old.cells (class_cells) result self.new.cells }
+        ensures full { OnFull result (self.new ≡ self.old) }
     {
         let cells = self.charged(4)?;
         Ok(self.add_class(alloc, cells, name, true, None)?)
@@ -74,7 +79,9 @@ impl Store {
         name: Name,
         is_module: bool,
         above: Option<ClassId>,
-    ) -> Result<ClassId, NoMemory> {
+    ) -> Result<ClassId, NoMemory>
+        ensures { OnOk result (self.new.cells ≡ cells) }
+    {
         let class = ClassId {
             number: self.objects.len(),
         };
@@ -103,10 +110,14 @@ impl Store {
     }
 
     /// Whether a class or a module has this number.
+    #[tactic(auto, using(crate::proofs::Standing::kind_some, crate::proofs::Standing::kind_none))]
     pub(crate) fn is_class(&self, class: ClassId) -> bool
         ensures { (read : Reading) → result ≡ is_class_or_module (kind_at (objects_of read self.now) class.number) }
     {
-        self.class_record(class).is_some()
+        match self.objects.get(class.number) {
+            Some(object) => object.content.is_class(),
+            None => false,
+        }
     }
 
     /// What a class has.
@@ -174,6 +185,7 @@ impl Store {
     }
 
     /// The class of what stands at a place.
+    #[tactic(auto, using(crate::proofs::Standing::kind_some, crate::proofs::Standing::kind_none))]
     fn class_of_object(&self, number: usize) -> ClassId
         ensures { (read : Reading) → result.number ≡ class_of_kind (kind_at (objects_of read self.now) number) }
     {

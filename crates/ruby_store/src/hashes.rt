@@ -16,9 +16,8 @@ impl Store {
     pub fn new_hash(&mut self, alloc: Global, default: Value) -> Result<ObjectId, StoreFault>
         ensures { Makes (hash_cells 0) (λ read. new_object (meant.table [] (value_of read default))) self.old result self.new }
     {
-        let cells = self.charged(1)?;
         let table = Box::new(alloc, HashTable::new(alloc, default))?;
-        Ok(self.add_object(cells, Content::Hash(table), false)?)
+        self.make(1, Content::Hash(table), false)
     }
 
     fn table(&self, id: ObjectId) -> Option<&HashTable> {

@@ -1,7 +1,7 @@
 //! What an object and a class have.
 ghost use Rattle.std.specs.Prelude.{◌≡◌};
-ghost use Rattle.ruby_meaning.specs.Store.{class_of_kind};
-ghost use Rattle.ruby_store.specs.Kinds.{told_kind};
+ghost use Rattle.ruby_meaning.specs.Store.{class_of_kind, is_class_or_module};
+ghost use Rattle.ruby_store.specs.Kinds.{is_elements, told_kind};
 ghost use Rattle.ruby_store.specs.Model.{Reading, kind_of};
 
 use crate::classes::{ARRAY, CLASS, HASH, MODULE, PROC, RANGE, STRING};
@@ -61,6 +61,26 @@ impl Content {
             Content::Proc(_) => ObjectKind::Proc,
             Content::Plain(_) => ObjectKind::Plain,
             Content::Class(_) => ObjectKind::Class,
+        }
+    }
+
+    /// Whether it is that of a class or a module.
+    pub(crate) fn is_class(&self) -> bool
+        ensures { (read : Reading) → result ≡ is_class_or_module (kind_of read self.now) }
+    {
+        match self {
+            Content::Class(_) => true,
+            _ => false,
+        }
+    }
+
+    /// Whether it is that of an Array.
+    pub(crate) fn is_array(&self) -> bool
+        ensures { (read : Reading) → result ≡ is_elements (kind_of read self.now) }
+    {
+        match self {
+            Content::Array(_) => true,
+            _ => false,
         }
     }
 

@@ -4,7 +4,7 @@ ghost use Rattle.ruby_meaning.specs.Value as meant;
 ghost use Rattle.ruby_meaning.specs.Store.{string_cells, object_cells, range_cells, proc_cells, kind_at, new_object, new_string};
 ghost use Rattle.ruby_store.specs.Changes.{IsAdded, Makes};
 ghost use Rattle.ruby_store.specs.Kinds.{told_kind};
-ghost use Rattle.ruby_store.specs.Model.{Reading, objects_of};
+ghost use Rattle.ruby_store.specs.Model.{Reading, object_of, objects_of};
 
 use crate::object_parts::{Content, Ends, Extras, Object, ObjectKind, Thrown};
 use crate::{ClassId, EnvId, Name, ObjectId, ProcRow, Store, StoreFault, Value};
@@ -33,12 +33,27 @@ impl Store {
         Ok(ObjectId { number })
     }
 
+    /// Makes an object without variables, which takes so many cells.
+    #[tactic(auto, using(crate::proofs::Made::made))]
+    pub(crate) fn make(
+        &mut self,
+        cells: u64,
+        content: Content,
+        frozen: bool,
+    ) -> Result<ObjectId, StoreFault>
+        ensures { Makes cells (λ read. object_of read (record { content = content; extras = None; frozen = frozen })) self.old result self.new }
+    {
+        let after = self.charged(cells)?;
+        Ok(self.add_object(after, content, frozen)?)
+    }
+
     /// The object with this number.
     pub(crate) fn object(&self, id: ObjectId) -> Option<&Object> {
         self.objects.get(id.number)
     }
 
     /// What sort of object it is.
+    #[tactic(auto, using(crate::proofs::Standing::kind_some, crate::proofs::Standing::kind_none))]
     pub fn kind(&self, id: ObjectId) -> ObjectKind
         ensures { (read : Reading) → result ≡ told_kind (kind_at (objects_of read self.now) id.number) }
     {
@@ -52,25 +67,27 @@ impl Store {
     pub fn new_object(&mut self, class: ClassId) -> Result<ObjectId, StoreFault>
         ensures { Makes object_cells (λ read. new_object (meant.plain class.number)) self.old result self.new }
     {
-        let cells = self.charged(1)?;
-        Ok(self.add_object(cells, Content::Plain(class), false)?)
+        self.make(1, Content::Plain(class), false)
     }
 
     /// Makes a String, which is frozen.
     pub fn new_string(&mut self, alloc: Global, bytes: &[u8]) -> Result<ObjectId, StoreFault>
         ensures { Makes (string_cells (length bytes.now)) (λ read. new_string bytes.now) self.old result self.new }
     {
-        let cells = self.charged(cells_of_string(bytes.len() as u64))?;
         let text = Text::new(alloc, bytes)?;
-        Ok(self.add_object(cells, Content::String(text), true)?)
+        self.make(
+            cells_of_string(bytes.len() as u64),
+            Content::String(text),
+            true,
+        )
     }
 
     /// Makes a String of the bytes of the vector, which is not copied.
     pub fn new_string_of(&mut self, bytes: Vec<u8>) -> Result<ObjectId, StoreFault>
         ensures { Makes (string_cells (length bytes.items)) (λ read. new_string bytes.items) self.old result self.new }
     {
-        let cells = self.charged(cells_of_string(bytes.len() as u64))?;
-        Ok(self.add_object(cells, Content::String(Text::from_vec(bytes)), true)?)
+        let cells = cells_of_string(bytes.len() as u64);
+        self.make(cells, Content::String(Text::from_vec(bytes)), true)
     }
 
     /// The bytes of a String.
@@ -105,13 +122,12 @@ impl Store {
     ) -> Result<ObjectId, StoreFault>
         ensures { Makes range_cells (λ read. new_object (meant.span first last exclusive)) self.old result self.new }
     {
-        let cells = self.charged(3)?;
         let ends = Ends {
             first,
             last,
             exclusive,
         };
-        Ok(self.add_object(cells, Content::Range(ends), false)?)
+        self.make(3, Content::Range(ends), false)
     }
 
     /// The first and the last of a Range, and whether the last is left out.
@@ -128,9 +144,8 @@ impl Store {
     pub fn new_proc(&mut self, alloc: Global, row: ProcRow) -> Result<ObjectId, StoreFault>
         ensures { Makes proc_cells (λ read. new_object (meant.closed (read.closure_of row))) self.old result self.new }
     {
-        let cells = self.charged(2)?;
         let row = Box::new(alloc, row)?;
-        Ok(self.add_object(cells, Content::Proc(row), false)?)
+        self.make(2, Content::Proc(row), false)
     }
 
     /// What a Proc holds. Of what is no Proc this says nothing.
