@@ -1,5 +1,5 @@
 -- What a call that makes or changes an object answers and leaves.
-use Rattle.std.specs.Prelude.{◌≡◌, ℕ, ◌+◌, ◌<◌, ◌≤◌, Bool, true, false, List, [], ◌∷◌, ◌++◌, length, Result, Ok, Err}
+use Rattle.std.specs.Prelude.{◌≡◌, ℕ, ◌+◌, ◌<◌, ◌≤◌, [], ◌∷◌, ◌++◌, length, Result, Ok, Err}
 use Rattle.ruby_meaning.specs.Value as meant
 use Rattle.ruby_meaning.specs.Store.{cell_limit, next_number}
 use Rattle.store_values.specs.declared.faults.StoreFault.{StoreFault}

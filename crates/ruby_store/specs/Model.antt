@@ -1,6 +1,6 @@
 -- The part of the definition's world that a store holds: its objects. A reading turns the numbers of names, rows and Procs into what they stand
 -- for.
-use Rattle.std.specs.Prelude.{◌≡◌, ℕ, Bool, true, false, List, [], map, reverse as reversed, Option, Some, None}
+use Rattle.std.specs.Prelude.{◌≡◌, ℕ, List, [], map, reverse as reversed, Option, Some, None}
 use Rattle.std.specs.Option.{option_map}
 use Rattle.ruby_tree.specs.Names.{Bytes}
 use Rattle.ruby_meaning.specs.Value as meant
