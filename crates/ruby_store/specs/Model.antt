@@ -1,6 +1,6 @@
 -- The part of the definition's world that a store holds: its objects. A reading turns the numbers of names, rows and Procs into what they stand
 -- for.
-use Rattle.std.specs.Prelude.{◌≡◌, ℕ, List, [], map, reverse as reversed, Option, Some, None}
+use Rattle.std.specs.Prelude.{ℕ, List, [], map, reverse as reversed, Option, Some, None}
 use Rattle.std.specs.Option.{option_map}
 use Rattle.ruby_tree.specs.Names.{Bytes}
 use Rattle.ruby_meaning.specs.Value as meant
@@ -20,19 +20,14 @@ use Rattle.ruby_store.specs.declared.object_parts.Thrown.{Thrown}
 use Rattle.ruby_store.specs.declared.object_parts.Class.{Class}
 use Rattle.ruby_store.specs.declared.store.Store.{Store}
 
--- The texts of names, by their numbers. No two names have one text.
-pub record Naming : Type 0 where
-  pub text : ℕ → Bytes
-  pub apart : (n m : ℕ) → text n ≡ text m → n ≡ m
-
 -- What the numbers of names stand for, what a row of a method runs, and the number of a Proc's closure.
 pub record Reading : Type 0 where
-  pub naming : Naming
+  pub text : ℕ → Bytes
   pub body_of : own.MethodRow → MethodBody
   pub closure_of : ProcRow → ℕ
 
 abbrev pub text_of : Reading → ℕ → Bytes
-text_of read n = read.naming.text n
+text_of read n = read.text n
 
 -- A value: classes and other objects count in one row.
 abbrev pub value_of : Reading → Value → meant.Value
