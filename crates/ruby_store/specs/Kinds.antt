@@ -1,22 +1,24 @@
--- The kinds of objects.
+-- The sorts of objects.
 use Rattle.std.specs.Prelude.{Bool, true, false}
+use Rattle.ruby_meaning.specs.Value as meant
 use Rattle.ruby_store.specs.declared.object_parts.ObjectKind.{ObjectKind}
-use Rattle.ruby_store.specs.declared.object_parts.ObjectKind.TheVariants as kind
+use Rattle.ruby_store.specs.declared.object_parts.ObjectKind.TheVariants as sort
 
-abbrev pub is_class_kind : ObjectKind → Bool
-is_class_kind (kind.String n) = false
-is_class_kind (kind.Array n) = false
-is_class_kind (kind.Hash n) = false
-is_class_kind (kind.Range n) = false
-is_class_kind (kind.Proc n) = false
-is_class_kind (kind.Plain c) = false
-is_class_kind (kind.Class n) = true
+-- the sort of a kind of the definition
+abbrev pub told_kind : meant.Kind → ObjectKind
+told_kind (meant.string f) = sort.String
+told_kind (meant.elements vs) = sort.Array
+told_kind (meant.table ps d) = sort.Hash
+told_kind (meant.span a b e) = sort.Range
+told_kind (meant.closed k) = sort.Proc
+told_kind (meant.plain c) = sort.Plain
+told_kind (meant.class_or_module c) = sort.Class
 
-abbrev pub is_array_kind : ObjectKind → Bool
-is_array_kind (kind.String n) = false
-is_array_kind (kind.Array n) = true
-is_array_kind (kind.Hash n) = false
-is_array_kind (kind.Range n) = false
-is_array_kind (kind.Proc n) = false
-is_array_kind (kind.Plain c) = false
-is_array_kind (kind.Class n) = false
+abbrev pub is_elements : meant.Kind → Bool
+is_elements (meant.string f) = false
+is_elements (meant.elements vs) = true
+is_elements (meant.table ps d) = false
+is_elements (meant.span a b e) = false
+is_elements (meant.closed k) = false
+is_elements (meant.plain c) = false
+is_elements (meant.class_or_module c) = false

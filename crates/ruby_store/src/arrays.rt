@@ -1,12 +1,13 @@
 //! Arrays.
-ghost use Rattle.std.specs.Prelude.{◌≡◌, length};
-ghost use Rattle.ruby_meaning.specs.Store.{array_cells, kind_at};
-ghost use Rattle.ruby_meaning.specs.Value.{MethodBody};
-ghost use Rattle.store_values.specs.declared.rows.MethodRow.{MethodRow};
+ghost use Rattle.std.specs.Prelude.{◌≡◌, [], length};
+ghost use Rattle.ruby_meaning.specs.Value as meant;
+ghost use Rattle.ruby_meaning.specs.Store.{array_cells, kind_at, new_object};
 ghost use Rattle.ruby_store.specs.Cells.{Takes, OnFull, cost_if};
-ghost use Rattle.ruby_store.specs.Model.{objects_of, is_elements};
+ghost use Rattle.ruby_store.specs.Changes.{Makes};
+ghost use Rattle.ruby_store.specs.Kinds.{is_elements};
+ghost use Rattle.ruby_store.specs.Model.{Reading, objects_of, values_of};
 
-use crate::object_parts::ObjectKind;
+use crate::object_parts::Content;
 use crate::{ObjectId, Store, StoreFault, Value};
 use std::alloc::Global;
 use store_parts::Elements;
@@ -14,47 +15,31 @@ use store_parts::Elements;
 impl Store {
     /// Makes an Array without elements.
     pub fn new_array(&mut self, alloc: Global) -> Result<ObjectId, StoreFault>
-        ensures cells { Takes self.old.cells (array_cells 0) result self.new.cells }
-        ensures full { OnFull result (self.new ≡ self.old) }
+        ensures { Makes (array_cells 0) (λ read. new_object (meant.elements [])) self.old result self.new }
     {
         self.new_array_of(alloc, &[])
     }
 
     /// Makes an Array of these elements.
     pub fn new_array_of(&mut self, alloc: Global, values: &[Value]) -> Result<ObjectId, StoreFault>
-        ensures cells { Takes self.old.cells (array_cells (length values.now)) result self.new.cells }
-        ensures full { OnFull result (self.new ≡ self.old) }
+        ensures { Makes (array_cells (length values.now)) (λ read. new_object (meant.elements (values_of read values.now))) self.old result self.new }
     {
-        let cells = self.charged((values.len() as u64).saturating_add(1))?;
-        let place = self.arrays.len();
-        self.arrays.push(Elements::from_slice(alloc, values)?)?;
-        let id = self.add_object(ObjectKind::Array(place), false)?;
-        self.cells = cells;
-        Ok(id)
+        let elements = Elements::from_slice(alloc, values)?;
+        self.make(
+            (values.len() as u64).saturating_add(1),
+            Content::Array(elements),
+            false,
+        )
     }
 
     /// The elements of an Array.
     pub fn array(&self, id: ObjectId) -> &[Value] {
-        if let ObjectKind::Array(place) = self.kind(id)
-            && let Some(elements) = self.arrays.get(place)
+        if let Some(object) = self.object(id)
+            && let Content::Array(elements) = &object.content
         {
             return elements.as_slice();
         }
         &[]
-    }
-
-    /// Whether an Array has this number.
-    fn is_array(&self, id: ObjectId) -> bool
-        ensures { (bodies : MethodRow → MethodBody) → result ≡ is_elements (kind_at (objects_of bodies self.now) id.number) }
-    {
-        self.kind_at(id.number).is_array()
-    }
-
-    fn elements_mut(&mut self, id: ObjectId) -> Option<&mut Elements> {
-        match self.kind_at(id.number) {
-            ObjectKind::Array(place) => self.arrays.get_mut(place),
-            _ => None,
-        }
     }
 
     /// Adds an element at a place, in constant time at the end and at the front.
@@ -65,24 +50,39 @@ impl Store {
         place: usize,
         value: Value,
     ) -> Result<(), StoreFault>
-        ensures cells { (bodies : MethodRow → MethodBody) → Takes self.old.cells (cost_if (is_elements (kind_at (objects_of bodies self.old) id.number)) (1)) result self.new.cells }
+        ensures cells { (read : Reading) → Takes self.old.cells (cost_if (is_elements (kind_at (objects_of read self.old) id.number)) (1)) result self.new.cells }
         ensures full { OnFull result (self.new ≡ self.old) }
     {
         let cells = self.charged(if self.is_array(id) { 1 } else { 0 })?;
-        if let Some(elements) = self.elements_mut(id) {
+        if let Some(object) = self.objects.get_mut(id.number)
+            && let Content::Array(elements) = &mut object.content
+        {
             elements.insert(alloc, place, value)?;
         }
         self.cells = cells;
         Ok(())
     }
 
+    /// Whether an Array has this number.
+    #[tactic(auto, using(crate::proofs::Standing::kind_some, crate::proofs::Standing::kind_none))]
+    fn is_array(&self, id: ObjectId) -> bool
+        ensures { (read : Reading) → result ≡ is_elements (kind_at (objects_of read self.now) id.number) }
+    {
+        match self.objects.get(id.number) {
+            Some(object) => object.content.is_array(),
+            None => false,
+        }
+    }
+
     /// Adds an element behind the last.
     pub fn array_push(&mut self, id: ObjectId, value: Value) -> Result<(), StoreFault>
-        ensures cells { (bodies : MethodRow → MethodBody) → Takes self.old.cells (cost_if (is_elements (kind_at (objects_of bodies self.old) id.number)) (1)) result self.new.cells }
+        ensures cells { (read : Reading) → Takes self.old.cells (cost_if (is_elements (kind_at (objects_of read self.old) id.number)) (1)) result self.new.cells }
         ensures full { OnFull result (self.new ≡ self.old) }
     {
         let cells = self.charged(if self.is_array(id) { 1 } else { 0 })?;
-        if let Some(elements) = self.elements_mut(id) {
+        if let Some(object) = self.objects.get_mut(id.number)
+            && let Content::Array(elements) = &mut object.content
+        {
             elements.push(value)?;
         }
         self.cells = cells;
@@ -91,7 +91,7 @@ impl Store {
 
     /// Adds these elements behind the last.
     pub fn array_extend(&mut self, id: ObjectId, values: &[Value]) -> Result<(), StoreFault>
-        ensures cells { (bodies : MethodRow → MethodBody) → Takes self.old.cells (cost_if (is_elements (kind_at (objects_of bodies self.old) id.number)) (length values.now)) result self.new.cells }
+        ensures cells { (read : Reading) → Takes self.old.cells (cost_if (is_elements (kind_at (objects_of read self.old) id.number)) (length values.now)) result self.new.cells }
         ensures full { OnFull result (self.new ≡ self.old) }
     {
         let cells = self.charged(if self.is_array(id) {
@@ -99,7 +99,9 @@ impl Store {
         } else {
             0
         })?;
-        if let Some(elements) = self.elements_mut(id) {
+        if let Some(object) = self.objects.get_mut(id.number)
+            && let Content::Array(elements) = &mut object.content
+        {
             elements.extend(values)?;
         }
         self.cells = cells;
@@ -108,22 +110,28 @@ impl Store {
 
     /// Another value stands at the place now.
     pub fn array_set(&mut self, id: ObjectId, place: usize, value: Value) {
-        if let Some(elements) = self.elements_mut(id) {
+        if let Some(object) = self.objects.get_mut(id.number)
+            && let Content::Array(elements) = &mut object.content
+        {
             elements.set(place, value);
         }
     }
 
     /// Takes the element at the place away, in constant time at the end and at the front.
     pub fn array_remove(&mut self, id: ObjectId, place: usize) -> Value {
-        match self.elements_mut(id) {
-            Some(elements) => elements.remove(place),
-            None => Value::Nil,
+        if let Some(object) = self.objects.get_mut(id.number)
+            && let Content::Array(elements) = &mut object.content
+        {
+            return elements.remove(place);
         }
+        Value::Nil
     }
 
     /// Takes all elements away but the first `len`.
     pub fn array_truncate(&mut self, id: ObjectId, len: usize) {
-        if let Some(elements) = self.elements_mut(id) {
+        if let Some(object) = self.objects.get_mut(id.number)
+            && let Content::Array(elements) = &mut object.content
+        {
             elements.truncate(len);
         }
     }

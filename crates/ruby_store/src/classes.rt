@@ -1,14 +1,10 @@
 //! Classes and modules.
-ghost use Rattle.std.specs.Prelude.{◌≡◌};
+ghost use Rattle.std.specs.Prelude.{◌≡◌, OnOk};
 ghost use Rattle.ruby_meaning.specs.Store.{class_cells, class_of, class_of_kind, is_class_or_module, kind_at};
-ghost use Rattle.ruby_meaning.specs.Value.{MethodBody};
-ghost use Rattle.store_values.specs.declared.rows.MethodRow.{MethodRow};
-ghost use Rattle.store_parts.specs.Views.{texts_of};
-ghost use Rattle.ruby_store.specs.Model.{objects_of, value_of, kind_of};
-ghost use Rattle.ruby_store.specs.declared.object_parts.ObjectKind.TheVariants as own_kind;
 ghost use Rattle.ruby_store.specs.Cells.{Takes, OnFull};
+ghost use Rattle.ruby_store.specs.Model.{Reading, objects_of, value_of};
 
-use crate::object_parts::{Class, Object, ObjectKind};
+use crate::object_parts::{Class, Content};
 use crate::{ClassId, Name, Store, StoreFault, Value};
 use bs_outside::NoMemory;
 use std::alloc::Global;
@@ -35,17 +31,17 @@ const FALSE: ClassId = ClassId { number: 5 };
 
 const INTEGER: ClassId = ClassId { number: 6 };
 
-const STRING: ClassId = ClassId { number: 7 };
+pub(crate) const STRING: ClassId = ClassId { number: 7 };
 
 const SYMBOL: ClassId = ClassId { number: 8 };
 
-const ARRAY: ClassId = ClassId { number: 9 };
+pub(crate) const ARRAY: ClassId = ClassId { number: 9 };
 
-const HASH: ClassId = ClassId { number: 10 };
+pub(crate) const HASH: ClassId = ClassId { number: 10 };
 
-const RANGE: ClassId = ClassId { number: 11 };
+pub(crate) const RANGE: ClassId = ClassId { number: 11 };
 
-const PROC: ClassId = ClassId { number: 12 };
+pub(crate) const PROC: ClassId = ClassId { number: 12 };
 
 impl Store {
     /// Makes a class below another one, Object where none is named.
@@ -63,9 +59,7 @@ impl Store {
             Some(class) => class,
             None => OBJECT,
         };
-        let class = self.add_class(alloc, name, false, Some(above))?;
-        self.cells = cells;
-        Ok(class)
+        Ok(self.add_class(alloc, cells, name, false, Some(above))?)
     }
 
     /// Makes a module.
@@ -74,28 +68,26 @@ impl Store {
         ensures full { OnFull result (self.new ≡ self.old) }
     {
         let cells = self.charged(4)?;
-        let class = self.add_class(alloc, name, true, None)?;
-        self.cells = cells;
-        Ok(class)
+        Ok(self.add_class(alloc, cells, name, true, None)?)
     }
 
     /// Adds a class or a module without rows and constants.
     pub(crate) fn add_class(
         &mut self,
         alloc: Global,
+        cells: u64,
         name: Name,
         is_module: bool,
         above: Option<ClassId>,
-    ) -> Result<ClassId, NoMemory> {
-        // Where memory fails, it fails before the class stands among the others.
-        self.objects.reserve(1)?;
+    ) -> Result<ClassId, NoMemory>
+        ensures { OnOk result (self.new.cells ≡ cells) }
+    {
         let class = ClassId {
             number: self.objects.len(),
         };
         let mut line = Vec::new(alloc);
         line.push(class)?;
-        let place = self.classes.len();
-        self.classes.push(Class {
+        let record = Class {
             name,
             is_module,
             above,
@@ -105,35 +97,41 @@ impl Store {
             methods: RowTable::new(alloc),
             class_methods: RowTable::new(alloc),
             constants: NameMap::new(alloc),
-        })?;
-        self.objects.push(Object {
-            kind: ObjectKind::Class(place),
-            variables: 0,
-            thrown: 0,
-            frozen: false,
-        })?;
-        Ok(class)
+        };
+        let record = Box::new(alloc, record)?;
+        self.classes.push(class)?;
+        match self.add_object(cells, Content::Class(record), false) {
+            Ok(_) => Ok(class),
+            Err(fault) => {
+                self.classes.pop();
+                Err(fault)
+            }
+        }
     }
 
     /// Whether a class or a module has this number.
+    #[tactic(auto, using(crate::proofs::Standing::kind_some, crate::proofs::Standing::kind_none))]
     pub(crate) fn is_class(&self, class: ClassId) -> bool
-        ensures { (bodies : MethodRow → MethodBody) → result ≡ is_class_or_module (kind_at (objects_of bodies self.now) class.number) }
+        ensures { (read : Reading) → result ≡ is_class_or_module (kind_at (objects_of read self.now) class.number) }
     {
-        self.kind_at(class.number).is_class()
+        match self.objects.get(class.number) {
+            Some(object) => object.content.is_class(),
+            None => false,
+        }
     }
 
     /// What a class has.
     pub(crate) fn class_record(&self, class: ClassId) -> Option<&Class> {
-        match self.kind_at(class.number) {
-            ObjectKind::Class(place) => self.classes.get(place),
+        match &self.objects.get(class.number)?.content {
+            Content::Class(record) => Some(record),
             _ => None,
         }
     }
 
     /// What a class has, to be changed.
     pub(crate) fn class_record_mut(&mut self, class: ClassId) -> Option<&mut Class> {
-        match self.kind_at(class.number) {
-            ObjectKind::Class(place) => self.classes.get_mut(place),
+        match &mut self.objects.get_mut(class.number)?.content {
+            Content::Class(record) => Some(record),
             _ => None,
         }
     }
@@ -173,7 +171,7 @@ impl Store {
 
     /// The class of a value.
     pub fn class_of(&self, of: &Value) -> ClassId
-        ensures { (bodies : MethodRow → MethodBody) → result.number ≡ class_of (objects_of bodies self.now) (value_of (texts_of self.now.names) of.now) }
+        ensures { (read : Reading) → result.number ≡ class_of (objects_of read self.now) (value_of read of.now) }
     {
         match *of {
             Value::Nil => NIL,
@@ -187,32 +185,13 @@ impl Store {
     }
 
     /// The class of what stands at a place.
+    #[tactic(auto, using(crate::proofs::Standing::kind_some, crate::proofs::Standing::kind_none))]
     fn class_of_object(&self, number: usize) -> ClassId
-        ensures { (bodies : MethodRow → MethodBody) → result.number ≡ class_of_kind (kind_at (objects_of bodies self.now) number) }
+        ensures { (read : Reading) → result.number ≡ class_of_kind (kind_at (objects_of read self.now) number) }
     {
-        match self.kind_at(number) {
-            ObjectKind::String(_) => STRING,
-            ObjectKind::Array(_) => ARRAY,
-            ObjectKind::Hash(_) => HASH,
-            ObjectKind::Range(_) => RANGE,
-            ObjectKind::Proc(_) => PROC,
-            ObjectKind::Plain(class) => class,
-            ObjectKind::Class(place) => self.class_of_record(place),
-        }
-    }
-
-    /// The class of what is a class or a module.
-    fn class_of_record(&self, place: usize) -> ClassId
-        ensures { (bodies : MethodRow → MethodBody) → result.number ≡ class_of_kind (kind_of bodies self.now (own_kind.Class place)) }
-    {
-        match self.classes.get(place) {
-            Some(record) => {
-                if record.is_module {
-                    return MODULE;
-                }
-                CLASS
-            }
-            None => CLASS,
+        match self.objects.get(number) {
+            Some(object) => object.content.class(),
+            None => OBJECT,
         }
     }
 

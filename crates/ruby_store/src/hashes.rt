@@ -1,9 +1,11 @@
 //! Hashes, and the equality of their keys.
-ghost use Rattle.std.specs.Prelude.{◌≡◌};
-ghost use Rattle.ruby_meaning.specs.Store.{hash_cells};
-ghost use Rattle.ruby_store.specs.Cells.{Takes, OnFull};
+ghost use Rattle.std.specs.Prelude.{◌≡◌, []};
+ghost use Rattle.ruby_meaning.specs.Value as meant;
+ghost use Rattle.ruby_meaning.specs.Store.{hash_cells, new_object};
+ghost use Rattle.ruby_store.specs.Changes.{Makes};
+ghost use Rattle.ruby_store.specs.Model.{value_of};
 
-use crate::object_parts::ObjectKind;
+use crate::object_parts::Content;
 use crate::{ObjectId, Store, StoreFault, Value};
 use bs_outside::NoMemory;
 use std::alloc::Global;
@@ -12,27 +14,22 @@ use store_parts::{HashTable, Key};
 impl Store {
     /// Makes a Hash without pairs.
     pub fn new_hash(&mut self, alloc: Global, default: Value) -> Result<ObjectId, StoreFault>
-        ensures cells { Takes self.old.cells (hash_cells 0) result self.new.cells }
-        ensures full { OnFull result (self.new ≡ self.old) }
+        ensures { Makes (hash_cells 0) (λ read. new_object (meant.table [] (value_of read default))) self.old result self.new }
     {
-        let cells = self.charged(1)?;
-        let place = self.hashes.len();
-        self.hashes.push(HashTable::new(alloc, default))?;
-        let id = self.add_object(ObjectKind::Hash(place), false)?;
-        self.cells = cells;
-        Ok(id)
+        let table = Box::new(alloc, HashTable::new(alloc, default))?;
+        self.make(1, Content::Hash(table), false)
     }
 
     fn table(&self, id: ObjectId) -> Option<&HashTable> {
-        match self.kind(id) {
-            ObjectKind::Hash(place) => self.hashes.get(place),
+        match &self.object(id)?.content {
+            Content::Hash(table) => Some(table),
             _ => None,
         }
     }
 
     fn table_mut(&mut self, id: ObjectId) -> Option<&mut HashTable> {
-        match self.kind(id) {
-            ObjectKind::Hash(place) => self.hashes.get_mut(place),
+        match &mut self.objects.get_mut(id.number)?.content {
+            Content::Hash(table) => Some(table),
             _ => None,
         }
     }
@@ -51,8 +48,8 @@ impl Store {
     /// The key of a value. The text of a String gets a name.
     pub fn key_of(&mut self, alloc: Global, of: &Value) -> Result<Key, NoMemory> {
         if let Value::Object(id) = *of
-            && let ObjectKind::String(place) = self.kind(id)
-            && let Some(text) = self.strings.get(place)
+            && let Some(object) = self.objects.get(id.number)
+            && let Content::String(text) = &object.content
         {
             let name = self.names.intern(alloc, text.as_slice())?;
             return Ok(Key::Text(name.number));

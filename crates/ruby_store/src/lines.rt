@@ -105,9 +105,9 @@ impl Store {
 
     /// The class that lies at this place, where the other one stands in its line.
     fn follower(&self, at: usize, other: ClassId) -> Option<ClassId> {
-        let line = self.classes.get(at)?.line.as_slice();
-        if is_in_line(line, other) {
-            return line.first().copied();
+        let class = *self.classes.get(at)?;
+        if is_in_line(self.line(class), other) {
+            return Some(class);
         }
         None
     }

@@ -1,10 +1,8 @@
 //! How methods are found.
 ghost use Rattle.std.specs.Prelude.{◌≡◌};
 ghost use Rattle.ruby_meaning.specs.Store.{is_class_or_module, kind_at, method_cells};
-ghost use Rattle.ruby_meaning.specs.Value.{MethodBody};
-ghost use Rattle.store_values.specs.declared.rows.MethodRow.{MethodRow};
 ghost use Rattle.ruby_store.specs.Cells.{Takes, OnFull, cost_if};
-ghost use Rattle.ruby_store.specs.Model.{objects_of};
+ghost use Rattle.ruby_store.specs.Model.{Reading, objects_of};
 
 use crate::{ClassId, MethodRow, Name, Store, StoreFault, Value};
 
@@ -16,7 +14,7 @@ impl Store {
         name: Name,
         row: MethodRow,
     ) -> Result<(), StoreFault>
-        ensures cells { (bodies : MethodRow → MethodBody) → Takes self.old.cells (cost_if (is_class_or_module (kind_at (objects_of bodies self.old) class.number)) (method_cells)) result self.new.cells }
+        ensures cells { (read : Reading) → Takes self.old.cells (cost_if (is_class_or_module (kind_at (objects_of read self.old) class.number)) (method_cells)) result self.new.cells }
         ensures full { OnFull result (self.new ≡ self.old) }
     {
         let cells = self.charged(if self.is_class(class) { 1 } else { 0 })?;
@@ -35,7 +33,7 @@ impl Store {
         name: Name,
         row: MethodRow,
     ) -> Result<(), StoreFault>
-        ensures cells { (bodies : MethodRow → MethodBody) → Takes self.old.cells (cost_if (is_class_or_module (kind_at (objects_of bodies self.old) class.number)) (method_cells)) result self.new.cells }
+        ensures cells { (read : Reading) → Takes self.old.cells (cost_if (is_class_or_module (kind_at (objects_of read self.old) class.number)) (method_cells)) result self.new.cells }
         ensures full { OnFull result (self.new ≡ self.old) }
     {
         let cells = self.charged(if self.is_class(class) { 1 } else { 0 })?;

@@ -1,63 +1,128 @@
 //! What an object and a class have.
 ghost use Rattle.std.specs.Prelude.{◌≡◌};
-ghost use Rattle.ruby_store.specs.Kinds.{is_class_kind, is_array_kind};
+ghost use Rattle.ruby_meaning.specs.Store.{class_of_kind, is_class_or_module};
+ghost use Rattle.ruby_store.specs.Kinds.{is_elements, told_kind};
+ghost use Rattle.ruby_store.specs.Model.{Reading, kind_of};
 
+use crate::classes::{ARRAY, CLASS, HASH, MODULE, PROC, RANGE, STRING};
+use bs_outside::Text;
 use ruby_tree::Name;
-use store_parts::{NameMap, RowTable};
-use store_values::ClassId;
+use store_parts::{Elements, HashTable, NameMap, RowTable};
+use store_values::{ClassId, ProcRow};
 
-/// The kind of an object, with the number of its contents among those of its kind.
-#[derive(Clone, Copy, Drop)]
+/// What sort of object it is.
+#[derive(Clone, Copy, PartialEq, Eq, Debug, Drop)]
 pub enum ObjectKind {
     /// A String.
-    String(usize),
+    String,
     /// An Array.
-    Array(usize),
+    Array,
     /// A Hash.
-    Hash(usize),
+    Hash,
     /// A Range.
-    Range(usize),
+    Range,
     /// A Proc.
-    Proc(usize),
+    Proc,
     /// An object of a class that has no kind of its own.
-    Plain(ClassId),
+    Plain,
     /// A class or a module.
-    Class(usize),
+    Class,
 }
 
-impl ObjectKind {
-    /// Whether it is that of a class or a module.
-    pub(crate) fn is_class(&self) -> bool
-        ensures { result ≡ is_class_kind self.now }
+/// What an object holds.
+#[derive(Drop)]
+pub enum Content {
+    /// The bytes of a String.
+    String(Text),
+    /// The elements of an Array.
+    Array(Elements),
+    /// The pairs of a Hash.
+    Hash(Box<HashTable>),
+    /// The ends of a Range.
+    Range(Ends),
+    /// The row of a Proc.
+    Proc(Box<ProcRow>),
+    /// The class of an object that has no kind of its own.
+    Plain(ClassId),
+    /// What a class or a module has.
+    Class(Box<Class>),
+}
+
+impl Content {
+    /// What sort of object has it.
+    pub(crate) fn kind(&self) -> ObjectKind
+        ensures { (read : Reading) → result ≡ told_kind (kind_of read self.now) }
     {
         match self {
-            ObjectKind::Class(_) => true,
+            Content::String(_) => ObjectKind::String,
+            Content::Array(_) => ObjectKind::Array,
+            Content::Hash(_) => ObjectKind::Hash,
+            Content::Range(_) => ObjectKind::Range,
+            Content::Proc(_) => ObjectKind::Proc,
+            Content::Plain(_) => ObjectKind::Plain,
+            Content::Class(_) => ObjectKind::Class,
+        }
+    }
+
+    /// Whether it is that of a class or a module.
+    pub(crate) fn is_class(&self) -> bool
+        ensures { (read : Reading) → result ≡ is_class_or_module (kind_of read self.now) }
+    {
+        match self {
+            Content::Class(_) => true,
             _ => false,
         }
     }
 
     /// Whether it is that of an Array.
     pub(crate) fn is_array(&self) -> bool
-        ensures { result ≡ is_array_kind self.now }
+        ensures { (read : Reading) → result ≡ is_elements (kind_of read self.now) }
     {
         match self {
-            ObjectKind::Array(_) => true,
+            Content::Array(_) => true,
             _ => false,
+        }
+    }
+
+    /// The class of an object that has it.
+    pub(crate) fn class(&self) -> ClassId
+        ensures { (read : Reading) → result.number ≡ class_of_kind (kind_of read self.now) }
+    {
+        match self {
+            Content::String(_) => STRING,
+            Content::Array(_) => ARRAY,
+            Content::Hash(_) => HASH,
+            Content::Range(_) => RANGE,
+            Content::Proc(_) => PROC,
+            Content::Plain(class) => *class,
+            Content::Class(record) => {
+                if record.is_module {
+                    return MODULE;
+                }
+                CLASS
+            }
         }
     }
 }
 
 /// An object.
-#[derive(Clone, Copy, Drop)]
+#[derive(Drop)]
 pub struct Object {
-    /// Its kind.
-    pub kind: ObjectKind,
-    /// The number of its variables, plus 1, or 0 where none was set.
-    pub variables: usize,
-    /// The number of the position at which it was thrown first, plus 1, or 0 where it never was.
-    pub thrown: usize,
+    /// What it holds.
+    pub content: Content,
+    /// Its variables, and where it was thrown: none where no variable was set and it was never thrown.
+    pub extras: Option<Box<Extras>>,
     /// Whether it is frozen.
     pub frozen: bool,
+}
+
+/// What only some objects have.
+#[derive(Drop)]
+pub struct Extras {
+    /// The variables that were set.
+    pub variables: NameMap,
+    /// Where an exception was thrown first.
+    pub thrown: Option<Thrown>,
 }
 
 /// The ends of a Range.

@@ -1,89 +1,93 @@
 //! Objects, Strings, Ranges and Procs.
-ghost use Rattle.std.specs.Prelude.{◌≡◌, ◌+◌, length};
-ghost use Rattle.ruby_meaning.specs.Store.{string_cells, object_cells, range_cells, proc_cells, kind_at};
-ghost use Rattle.ruby_meaning.specs.Value.{MethodBody};
-ghost use Rattle.store_values.specs.declared.rows.MethodRow.{MethodRow};
-ghost use Rattle.ruby_store.specs.Model.{objects_of, kind_of};
-ghost use Rattle.ruby_store.specs.Cells.{Takes, OnFull};
+ghost use Rattle.std.specs.Prelude.{◌≡◌, ◌+◌, length, IfOk, None, true, false};
+ghost use Rattle.ruby_meaning.specs.Value as meant;
+ghost use Rattle.ruby_meaning.specs.Store.{string_cells, object_cells, range_cells, proc_cells, kind_at, new_object, new_string};
+ghost use Rattle.ruby_store.specs.Changes.{IsAdded, Makes};
+ghost use Rattle.ruby_store.specs.Kinds.{told_kind};
+ghost use Rattle.ruby_store.specs.Model.{Reading, object_of, objects_of};
 
-use crate::classes::OBJECT;
-use crate::object_parts::{Ends, Object, ObjectKind, Thrown};
+use crate::object_parts::{Content, Ends, Extras, Object, ObjectKind, Thrown};
 use crate::{ClassId, EnvId, Name, ObjectId, ProcRow, Store, StoreFault, Value};
-use bs_outside::Text;
-use std::alloc::{AllocError, Global};
+use bs_outside::{NoMemory, Text};
+use std::alloc::Global;
+use store_parts::NameMap;
 
 impl Store {
-    /// Adds an object of a kind, without variables.
+    /// Adds an object without variables. The cells are these then.
     pub(crate) fn add_object(
         &mut self,
-        kind: ObjectKind,
+        cells: u64,
+        content: Content,
         frozen: bool,
-    ) -> Result<ObjectId, AllocError> {
+    ) -> Result<ObjectId, NoMemory>
+        ensures { IfOk result (λ id. IsAdded cells (record { content = content; extras = None; frozen = frozen }) self.old self.new id) }
+    {
         let number = self.objects.len();
         let object = Object {
-            kind,
-            variables: 0,
-            thrown: 0,
+            content,
+            extras: None,
             frozen,
         };
         self.objects.push(object)?;
+        self.cells = cells;
         Ok(ObjectId { number })
     }
 
-    /// What stands at a place.
-    #[tactic(auto, using(crate::proofs::Standing::kind_some, crate::proofs::Standing::kind_none))]
-    pub(crate) fn kind_at(&self, number: usize) -> ObjectKind
-        ensures { (bodies : MethodRow → MethodBody) → kind_of bodies self.now result ≡ kind_at (objects_of bodies self.now) number }
+    /// Makes an object without variables, which takes so many cells.
+    #[tactic(auto, using(crate::proofs::Made::made))]
+    pub(crate) fn make(
+        &mut self,
+        cells: u64,
+        content: Content,
+        frozen: bool,
+    ) -> Result<ObjectId, StoreFault>
+        ensures { Makes cells (λ read. object_of read (record { content = content; extras = None; frozen = frozen })) self.old result self.new }
     {
-        match self.objects.get(number) {
-            Some(object) => object.kind,
-            None => ObjectKind::Plain(OBJECT),
-        }
+        let after = self.charged(cells)?;
+        Ok(self.add_object(after, content, frozen)?)
     }
 
-    /// The kind of an object.
-    pub fn kind(&self, id: ObjectId) -> ObjectKind {
-        self.kind_at(id.number)
+    /// The object with this number.
+    pub(crate) fn object(&self, id: ObjectId) -> Option<&Object> {
+        self.objects.get(id.number)
+    }
+
+    /// What sort of object it is.
+    #[tactic(auto, using(crate::proofs::Standing::kind_some, crate::proofs::Standing::kind_none))]
+    pub fn kind(&self, id: ObjectId) -> ObjectKind
+        ensures { (read : Reading) → result ≡ told_kind (kind_at (objects_of read self.now) id.number) }
+    {
+        match self.objects.get(id.number) {
+            Some(object) => object.content.kind(),
+            None => ObjectKind::Plain,
+        }
     }
 
     /// Makes an object of a class that has no kind of its own.
     pub fn new_object(&mut self, class: ClassId) -> Result<ObjectId, StoreFault>
-        ensures cells { Takes self.old.cells (object_cells) result self.new.cells }
-        ensures full { OnFull result (self.new ≡ self.old) }
+        ensures { Makes object_cells (λ read. new_object (meant.plain class.number)) self.old result self.new }
     {
-        let cells = self.charged(1)?;
-        let id = self.add_object(ObjectKind::Plain(class), false)?;
-        self.cells = cells;
-        Ok(id)
+        self.make(1, Content::Plain(class), false)
     }
 
     /// Makes a String, which is frozen.
     pub fn new_string(&mut self, alloc: Global, bytes: &[u8]) -> Result<ObjectId, StoreFault>
-        ensures cells { Takes self.old.cells (string_cells (length bytes.now)) result self.new.cells }
-        ensures full { OnFull result (self.new ≡ self.old) }
+        ensures { Makes (string_cells (length bytes.now)) (λ read. new_string bytes.now) self.old result self.new }
     {
-        let cells = self.charged(cells_of_string(bytes.len() as u64))?;
         let text = Text::new(alloc, bytes)?;
-        let id = self.add_string(text)?;
-        self.cells = cells;
-        Ok(id)
+        self.make(
+            cells_of_string(bytes.len() as u64),
+            Content::String(text),
+            true,
+        )
     }
 
     /// Makes a String of the bytes of the vector, which is not copied.
     pub fn new_string_of(&mut self, bytes: Vec<u8>) -> Result<ObjectId, StoreFault>
-        ensures cells { Takes self.old.cells (string_cells (length bytes.items)) result self.new.cells }
-        ensures full { OnFull result (self.new ≡ self.old) }
+        ensures { Makes (string_cells (length bytes.items)) (λ read. new_string bytes.items) self.old result self.new }
     {
-        let cells = self.charged(cells_of_string(bytes.len() as u64))?;
-        let id = self.add_string(Text::from_vec(bytes))?;
-        self.cells = cells;
-        Ok(id)
-    }
-
-    fn add_string(&mut self, text: Text) -> Result<ObjectId, AllocError> {
-        let place = self.strings.len();
-        self.strings.push(text)?;
-        self.add_object(ObjectKind::String(place), true)
+        let cells = cells_of_string(bytes.len() as u64);
+        self.make(cells, Content::String(Text::from_vec(bytes)), true)
     }
 
     /// The bytes of a String.
@@ -103,11 +107,8 @@ impl Store {
     }
 
     fn text_at(&self, id: ObjectId) -> Option<&[u8]> {
-        match self.kind(id) {
-            ObjectKind::String(place) => match self.strings.get(place) {
-                Some(text) => Some(text.as_slice()),
-                None => None,
-            },
+        match &self.object(id)?.content {
+            Content::String(text) => Some(text.as_slice()),
             _ => None,
         }
     }
@@ -119,25 +120,20 @@ impl Store {
         last: i64,
         exclusive: bool,
     ) -> Result<ObjectId, StoreFault>
-        ensures cells { Takes self.old.cells (range_cells) result self.new.cells }
-        ensures full { OnFull result (self.new ≡ self.old) }
+        ensures { Makes range_cells (λ read. new_object (meant.span first last exclusive)) self.old result self.new }
     {
-        let cells = self.charged(3)?;
-        let place = self.ranges.len();
-        self.ranges.push(Ends {
+        let ends = Ends {
             first,
             last,
             exclusive,
-        })?;
-        let id = self.add_object(ObjectKind::Range(place), false)?;
-        self.cells = cells;
-        Ok(id)
+        };
+        self.make(3, Content::Range(ends), false)
     }
 
     /// The first and the last of a Range, and whether the last is left out.
     pub fn range(&self, id: ObjectId) -> (i64, i64, bool) {
-        if let ObjectKind::Range(place) = self.kind(id)
-            && let Some(ends) = self.ranges.get(place)
+        if let Some(object) = self.object(id)
+            && let Content::Range(ends) = &object.content
         {
             return (ends.first, ends.last, ends.exclusive);
         }
@@ -145,24 +141,19 @@ impl Store {
     }
 
     /// Makes a Proc.
-    pub fn new_proc(&mut self, row: ProcRow) -> Result<ObjectId, StoreFault>
-        ensures cells { Takes self.old.cells (proc_cells) result self.new.cells }
-        ensures full { OnFull result (self.new ≡ self.old) }
+    pub fn new_proc(&mut self, alloc: Global, row: ProcRow) -> Result<ObjectId, StoreFault>
+        ensures { Makes proc_cells (λ read. new_object (meant.closed (read.closure_of row))) self.old result self.new }
     {
-        let cells = self.charged(2)?;
-        let place = self.procs.len();
-        self.procs.push(row)?;
-        let id = self.add_object(ObjectKind::Proc(place), false)?;
-        self.cells = cells;
-        Ok(id)
+        let row = Box::new(alloc, row)?;
+        self.make(2, Content::Proc(row), false)
     }
 
     /// What a Proc holds. Of what is no Proc this says nothing.
     pub fn proc_row(&self, id: ObjectId) -> ProcRow {
-        if let ObjectKind::Proc(place) = self.kind(id)
-            && let Some(row) = self.procs.get(place)
+        if let Some(object) = self.object(id)
+            && let Content::Proc(row) = &object.content
         {
-            return *row;
+            return **row;
         }
         ProcRow {
             unit: 0,
@@ -204,21 +195,46 @@ impl Store {
 
     /// Where it was thrown first.
     pub fn thrown_at(&self, id: ObjectId) -> Option<(Name, u64)> {
-        let place = self.objects.get(id.number)?.thrown;
-        if place == 0 {
-            return None;
+        match &self.object(id)?.extras {
+            Some(extras) => match extras.thrown {
+                Some(at) => Some((at.path, at.line)),
+                None => None,
+            },
+            None => None,
         }
-        let at = self.thrown.get(place - 1)?;
-        Some((at.path, at.line))
     }
 
     /// It is thrown here; where it was thrown first stays.
-    pub fn set_thrown(&mut self, id: ObjectId, path: Name, line: u64) -> Result<(), AllocError> {
-        if let Some(object) = self.objects.get_mut(id.number)
-            && object.thrown == 0
-        {
-            self.thrown.push(Thrown { path, line })?;
-            object.thrown = self.thrown.len();
+    pub fn set_thrown(
+        &mut self,
+        alloc: Global,
+        id: ObjectId,
+        path: Name,
+        line: u64,
+    ) -> Result<(), NoMemory> {
+        match self.objects.get_mut(id.number) {
+            Some(object) => object.set_thrown(alloc, Thrown { path, line }),
+            None => Ok(()),
+        }
+    }
+}
+
+impl Object {
+    /// It is thrown here, where it was not thrown before.
+    fn set_thrown(&mut self, alloc: Global, at: Thrown) -> Result<(), NoMemory> {
+        match &mut self.extras {
+            Some(extras) => {
+                if extras.thrown.is_none() {
+                    extras.thrown = Some(at);
+                }
+            }
+            None => {
+                let extras = Extras {
+                    variables: NameMap::new(alloc),
+                    thrown: Some(at),
+                };
+                self.extras = Some(Box::new(alloc, extras)?);
+            }
         }
         Ok(())
     }

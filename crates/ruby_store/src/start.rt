@@ -218,7 +218,7 @@ impl Store {
                 number: class.above,
             })
         };
-        let id = self.add_class(alloc, name, class.is_module, above)?;
+        let id = self.add_class(alloc, 0, name, class.is_module, above)?;
         self.set_constant(OBJECT, name, Value::Class(id))
     }
 }

@@ -6,11 +6,11 @@ ghost use Rattle.ruby_meaning.specs.Definitions.{name_cost};
 ghost use Rattle.ruby_store.specs.Cells.{Takes, OnFull, IsFull, or_nil};
 
 use crate::method_cache::MethodCache;
-use crate::object_parts::{Class, Ends, Object, Thrown};
-use crate::{ClassId, EnvId, Full, Name, ProcRow, StoreFault, Value};
-use bs_outside::{NoMemory, Text};
+use crate::object_parts::Object;
+use crate::{ClassId, EnvId, Full, Name, StoreFault, Value};
+use bs_outside::NoMemory;
 use std::alloc::Global;
-use store_parts::{Elements, Environments, HashTable, NameMap, NameTable};
+use store_parts::{Environments, NameMap, NameTable};
 
 /// How many cells a store has.
 pub const CELL_LIMIT: u64 = 16777216;
@@ -22,14 +22,8 @@ pub const CELL_LIMIT: u64 = 16777216;
 pub struct Store {
     pub(crate) names: NameTable,
     pub(crate) objects: Vec<Object>,
-    pub(crate) variables: Vec<NameMap>,
-    pub(crate) thrown: Vec<Thrown>,
-    pub(crate) strings: Vec<Text>,
-    pub(crate) arrays: Vec<Elements>,
-    pub(crate) hashes: Vec<HashTable>,
-    pub(crate) ranges: Vec<Ends>,
-    pub(crate) procs: Vec<ProcRow>,
-    pub(crate) classes: Vec<Class>,
+    /// The classes and modules in the order in which they were made.
+    pub(crate) classes: Vec<ClassId>,
     pub(crate) environments: Environments,
     pub(crate) globals: NameMap,
     pub(crate) cells: u64,
@@ -42,13 +36,6 @@ impl Store {
         Ok(Store {
             names: NameTable::new(alloc),
             objects: Vec::new(alloc),
-            variables: Vec::new(alloc),
-            thrown: Vec::new(alloc),
-            strings: Vec::new(alloc),
-            arrays: Vec::new(alloc),
-            hashes: Vec::new(alloc),
-            ranges: Vec::new(alloc),
-            procs: Vec::new(alloc),
             classes: Vec::new(alloc),
             environments: Environments::new(alloc),
             globals: NameMap::new(alloc),

@@ -1,6 +1,8 @@
 //! The variables of objects.
 use crate::classes::NO_NAME;
+use crate::object_parts::{Extras, Object};
 use crate::{Name, Store, StoreFault, Value};
+use bs_outside::NoMemory;
 use std::alloc::Global;
 use store_parts::NameMap;
 
@@ -16,11 +18,10 @@ fn number_of(of: &Value) -> Option<usize> {
 impl Store {
     /// The variables of an object, a class or a module.
     fn variables_of(&self, of: &Value) -> Option<&NameMap> {
-        let object = self.objects.get(number_of(of)?)?;
-        if object.variables == 0 {
-            return None;
+        match &self.objects.get(number_of(of)?)?.extras {
+            Some(extras) => Some(&extras.variables),
+            None => None,
         }
-        self.variables.get(object.variables - 1)
     }
 
     /// How many variables were set.
@@ -62,41 +63,39 @@ impl Store {
         let Some(number) = number_of(of) else {
             return Ok(());
         };
-        let Some(object) = self.objects.get(number) else {
-            return Ok(());
-        };
-        let list = object.variables;
-        if list == 0 {
-            return self.set_first_variable(alloc, number, name, value);
-        }
-        let is_new = match self.variables_of(of) {
-            Some(variables) => variables.get(name).is_none(),
-            None => false,
-        };
+        let is_new = number < self.objects.len() && !self.has_variable(of, name);
         let cells = self.charged(if is_new { 1 } else { 0 })?;
-        if let Some(variables) = self.variables.get_mut(list - 1) {
-            variables.set(name, value)?;
+        if let Some(object) = self.objects.get_mut(number) {
+            object.set_variable(alloc, name, value)?;
         }
         self.cells = cells;
         Ok(())
     }
 
-    /// Sets the first variable of what has none.
-    fn set_first_variable(
-        &mut self,
-        alloc: Global,
-        number: usize,
-        name: Name,
-        value: Value,
-    ) -> Result<(), StoreFault> {
-        let cells = self.charged(1)?;
-        let mut variables = NameMap::new(alloc);
-        variables.set(name, value)?;
-        self.variables.push(variables)?;
-        if let Some(object) = self.objects.get_mut(number) {
-            object.variables = self.variables.len();
+    /// Whether a variable was set.
+    fn has_variable(&self, of: &Value, name: Name) -> bool {
+        match self.variables_of(of) {
+            Some(variables) => variables.get(name).is_some(),
+            None => false,
         }
-        self.cells = cells;
-        Ok(())
+    }
+}
+
+impl Object {
+    /// The variable has the value now: in its place, or else last.
+    fn set_variable(&mut self, alloc: Global, name: Name, value: Value) -> Result<(), NoMemory> {
+        match &mut self.extras {
+            Some(extras) => extras.variables.set(name, value),
+            None => {
+                let mut variables = NameMap::new(alloc);
+                variables.set(name, value)?;
+                let extras = Extras {
+                    variables,
+                    thrown: None,
+                };
+                self.extras = Some(Box::new(alloc, extras)?);
+                Ok(())
+            }
+        }
     }
 }

@@ -1,4 +1,5 @@
 //! The pairs of a Hash.
+ghost use Rattle.std.specs.Prelude.{◌≡◌, []};
 
 use crate::Key;
 use bs_outside::NoMemory;
@@ -17,7 +18,10 @@ pub struct HashTable {
 
 impl HashTable {
     /// No pairs.
-    pub fn new(alloc: Global, default: Value) -> HashTable {
+    pub fn new(alloc: Global, default: Value) -> HashTable
+        ensures none { result.pairs.entries ≡ [] }
+        ensures default { result.default ≡ default }
+    {
         HashTable {
             pairs: IndexMap::new(alloc),
             default,

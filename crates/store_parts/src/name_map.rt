@@ -1,5 +1,5 @@
 //! Values by names.
-ghost use Rattle.std.specs.Prelude.{◌≡◌, None, OnOk, OnErr};
+ghost use Rattle.std.specs.Prelude.{◌≡◌, [], None, OnOk, OnErr};
 ghost use Rattle.ruby_tree.specs.declared.names.Name.{Name};
 ghost use Rattle.store_parts.specs.Views.{value_named, Sets, Keeps};
 
@@ -19,6 +19,7 @@ impl NameMap {
     /// No values.
     pub fn new(alloc: Global) -> NameMap
         ensures none { (name : Name) → value_named result name ≡ None }
+        ensures entries { result.values.entries ≡ [] }
     {
         NameMap {
             values: IndexMap::new(alloc),

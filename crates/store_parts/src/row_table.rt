@@ -1,5 +1,5 @@
 //! Rows of methods by their names.
-ghost use Rattle.std.specs.Prelude.{◌≡◌, None, OnOk, OnErr};
+ghost use Rattle.std.specs.Prelude.{◌≡◌, [], None, OnOk, OnErr};
 ghost use Rattle.ruby_tree.specs.declared.names.Name.{Name};
 ghost use Rattle.store_parts.specs.Views.{row_named, Sets, Keeps};
 
@@ -19,6 +19,7 @@ impl RowTable {
     /// No rows.
     pub fn new(alloc: Global) -> RowTable
         ensures none { (name : Name) → row_named result name ≡ None }
+        ensures entries { result.rows.entries ≡ [] }
     {
         RowTable {
             rows: IndexMap::new(alloc),

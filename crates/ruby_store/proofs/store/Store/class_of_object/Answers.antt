@@ -1,10 +1,11 @@
-use Rattle.std.proofs.Common.{sym, ◌∙◌, ap}
-use Rattle.ruby_meaning.specs.Store.{class_of_kind}
-use Rattle.ruby_store.specs.Model.{kind_of}
+use Rattle.std.proofs.Common.{◌≡◌, ◌∙◌, ap, arith}
+use Rattle.std.proofs.lemmas.Grind.{common_steps}
+use Rattle.ruby_meaning.specs.Store.{class_of_kind, kind_at}
+use Rattle.ruby_store.specs.Model.{kind_of, objects_of}
+use Rattle.ruby_store.proofs.Standing.{kind_some}
 use Rattle.ruby_store.proofs.store.Store.class_of_object.Goals as goal
 
-pub returns-in-Class : goal.returns-in-Class
-returns-in-Class c bodies =
-    c.class_of_record.ensures bodies
-    ∙ ap (λ k. class_of_kind (kind_of bodies c.args.self.now k)) (sym c.in-Class.is)
-    ∙ ap class_of_kind (c.kind_at.ensures bodies)
+pub returns-in-Some : goal.returns-in-Some
+returns-in-Some c read =
+    c.class.ensures read
+    ∙ ap class_of_kind (let e : kind_of read c.in-Some.object.now.content ≡ kind_at (objects_of read c.args.self.now) c.args.number = grind (arith, common_steps, kind_some) in e)
