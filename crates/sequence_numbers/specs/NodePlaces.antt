@@ -1,10 +1,7 @@
 -- The places of the sequences in a node. Its names do not matter, so they are read by a table without names.
-use Rattle.std.specs.Prelude.{Bool, true, false, ℕ, List, [], ◌++◌}
-use Rattle.ruby_tree.specs.declared.node.Kind.{Kind}
-use Rattle.ruby_tree.specs.declared.node.Node.{Node}
+use Rattle.std.specs.Prelude.{Bool, true, false, ℕ, List, ◌++◌}
 use Rattle.ruby_tree.specs.Tree.{Form, rescue_sequence, ensure_sequence, body}
-use Rattle.ruby_tree.specs.Views.{read_kind}
-use Rattle.ruby_meaning.specs.Sequences.{places, form_places, trees_places, clauses_places, params_places}
+use Rattle.ruby_meaning.specs.Sequences.{places, form_places, clauses_places, params_places}
 
 -- whether a node of this form is a sequence of its own
 abbrev pub is_sequence : Form → Bool

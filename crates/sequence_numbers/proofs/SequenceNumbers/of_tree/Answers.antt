@@ -1,4 +1,4 @@
-use Rattle.std.proofs.Common.{◌≡◌, ◌++◌, [], length, ◌∙◌, sym, ap, suc}
+use Rattle.std.proofs.Common.{◌++◌, [], length, ◌∙◌, sym, ap, suc}
 use Rattle.std.proofs.lemmas.List.Sorted.{IsNonDecreasingBy-from_sort, length_permutation}
 use Rattle.ruby_tree.specs.Read.{tree_of}
 use Rattle.ruby_meaning.specs.Sequences.{places, count_below}
