@@ -4,7 +4,7 @@ use Rattle.std.specs.FinMap.{get}
 use Rattle.std.proofs.Math.Seq.{drop-cons}
 use Rattle.std.proofs.lemmas.List.{take_more}
 use Rattle.bs_outside.specs.SourceTree.{SourceTree, stem_of}
-use Rattle.bs_outside.specs.Told.{added, Owes, AddsPrefix}
+use Rattle.bs_outside.specs.Told.{added, AddsPrefix}
 use Rattle.bs_outside.proofs.Owing.{none_came}
 use Rattle.path_meaning.specs.Scan.{folder_time, later, latest_of, folder_paths}
 

@@ -61,7 +61,13 @@ impl PathStore {
 
     /// Whether what is kept of the root may stand for its scan now. Of a stable root this is so exactly where an item without a time is kept, and nothing is looked at. Of
     /// another it is so where the root and the kept folders are folders, and their greatest time is the one that is kept.
-    pub fn valid<T: Tree>(&self, alloc: Global, tree: &mut T, root: &Text, stable: bool) -> Result<bool, TreeFault>
+    pub fn valid<T: Tree>(
+        &self,
+        alloc: Global,
+        tree: &mut T,
+        root: &Text,
+        stable: bool,
+    ) -> Result<bool, TreeFault>
         ensures answer { IfOk result (λ valid. IfSome (T.contents tree.old) (λ m. valid ≡ is_valid_item m root.now stable (finite.get self.now root.now))) }
         ensures contents { T.contents tree.new ≡ T.contents tree.old }
         ensures looked { AddsPrefix (T.stats tree.old) (T.stats tree.new) (paths_of_item root.now (finite.get self.now root.now)) }

@@ -1,4 +1,4 @@
-use Rattle.std.proofs.Common.{◌≡◌, ◌≤◌, ◌∙◌, ◌+◌, ℕ, None, Option, Some, IfSome, List, subst, sym, ap, arith}
+use Rattle.std.proofs.Common.{◌≡◌, ◌∙◌, ◌+◌, Option, IfSome, subst, arith}
 use Rattle.std.specs.FinMap.{get}
 use Rattle.bs_outside.specs.SourceTree.{SourceTree}
 use Rattle.path_meaning.specs.Scan.{folder_time, folder_paths}
@@ -48,7 +48,7 @@ loop-dir-preserved g c = record {
   goes = looks_on (g.T.Tree.contents c.args.tree.now) c.args.root.now c.args.dirs.now c.loop-dir.dir-index c.dir-item.result c.in_ok-path.path c.loop-dir.latest c.in-Some-2.time c.later_of-latest.result
       c.loop-dir-test.true c.dir-item.is c.in_ok-path.ensures c.later_of-latest.ensures
       (some_found (g.T.Tree.contents c.args.tree.now) c.in_ok-path.path c.in_ok-time.field-0 c.in-Some-2.time c.in-Some-2.is
-          (subst (λ (told : Option SourceTree). IfSome told (λ m. c.in_ok-time.field-0 ≡ folder_time (get m c.in_ok-path.path))) c.loop-dir.invariant.contents c.in_ok-time.ensures.time))
+      (subst (λ (told : Option SourceTree). IfSome told (λ m. c.in_ok-time.field-0 ≡ folder_time (get m c.in_ok-path.path))) c.loop-dir.invariant.contents c.in_ok-time.ensures.time))
       c.loop-dir.invariant.goes;
   contents = c.folder_time-in-loop-dir.ensures.contents ∙ c.loop-dir.invariant.contents;
   looked = looked_on (g.T.Tree.stats c.args.tree.now) (g.T.Tree.stats c.loop-dir.tree) (g.T.Tree.stats c.folder_time-in-loop-dir.new.tree) c.args.root.now c.args.dirs.now c.loop-dir.dir-index c.dir-item.result c.in_ok-path.path
