@@ -2,3 +2,4 @@ pub mod Sets
 pub mod Tables
 pub mod Places
 pub mod Stores
+pub mod Looks

@@ -2,6 +2,7 @@
 #![tactic(auto)]
 
 mod load_index;
+mod looking;
 mod path_store;
 mod table;
 mod text_set;

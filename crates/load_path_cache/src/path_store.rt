@@ -1,12 +1,14 @@
 //! The store of the load path's scans.
-ghost use Rattle.std.specs.Prelude.{◌≡◌, ◌<◌, IfOk, OnOk, OnErr};
+ghost use Rattle.std.specs.Prelude.{◌≡◌, ◌<◌, IfOk, IfSome, OnOk, OnErr, IsErrOf, true, ◌≤◌};
 ghost use Rattle.std.specs.Option.{option_copied};
 ghost use Rattle.std.specs.FinMap as finite;
 ghost use Rattle.bs_outside.specs.Paths.{IsNormalPath};
-ghost use Rattle.path_meaning.specs.StoreFile.{IsStoreEntry, CanBeKept, few_names, as_item, may_keep, store_with};
+ghost use Rattle.bs_outside.specs.Told.{Rose, AddsPrefix};
+ghost use Rattle.path_meaning.specs.StoreFile.{IsStoreEntry, CanBeKept, few_names, as_item, may_keep, store_with, is_latest, is_valid_item, paths_of_item};
 ghost use Rattle.load_path_cache.specs.Kept.{IsShort};
 
-use bs_outside::{Items, NoMemory, Text, Texts};
+use crate::looking::latest_time;
+use bs_outside::{Items, NoMemory, Text, Texts, Tree, TreeFault};
 use path_meaning::RootScan;
 use std::alloc::Global;
 use std::collections::BTreeMap;
@@ -55,6 +57,34 @@ impl PathStore {
         ensures { option_copied result ≡ finite.get self.now root.now }
     {
         self.items.get(root)
+    }
+
+    /// Whether what is kept of the root may stand for its scan now. Of a stable root this is so exactly where an item without a time is kept, and nothing is looked at. Of
+    /// another it is so where the root and the kept folders are folders, and their greatest time is the one that is kept.
+    pub fn valid<T: Tree>(
+        &self,
+        alloc: Global,
+        tree: &mut T,
+        root: &Text,
+        stable: bool,
+    ) -> Result<bool, TreeFault>
+        ensures answer { IfOk result (λ valid. IfSome (T.contents tree.old) (λ m. valid ≡ is_valid_item m root.now stable (finite.get self.now root.now))) }
+        ensures contents { T.contents tree.new ≡ T.contents tree.old }
+        ensures looked { AddsPrefix (T.stats tree.old) (T.stats tree.new) (paths_of_item root.now (finite.get self.now root.now)) }
+        ensures stable { stable ≡ true → T.stats tree.new ≡ T.stats tree.old }
+        ensures reads { T.reads tree.new ≡ T.reads tree.old }
+        ensures listings { T.listings tree.new ≡ T.listings tree.old }
+        ensures counted { T.faults tree.old ≤ T.faults tree.new }
+        ensures failed { IsErrOf result TreeFault.Failed → Rose (T.faults tree.old) (T.faults tree.new) }
+    {
+        let Some(item) = self.kept(root) else {
+            return Ok(false);
+        };
+        if stable {
+            return Ok(item.latest.is_none());
+        }
+        let latest = latest_time(alloc, tree, root, item.dirs.as_slice())?;
+        Ok(is_latest(item.latest, latest))
     }
 
     /// Keeps a scan of a root, without its time where the root is stable. The root has no item afterwards where the scan's time is
@@ -118,6 +148,16 @@ impl PathStore {
     {
         self.items.insert(root, item)?;
         Ok(())
+    }
+}
+
+/// Whether both times are there and are one.
+fn is_latest(kept: Option<u64>, latest: Option<u64>) -> bool
+    ensures { result ≡ is_latest kept latest }
+{
+    match (kept, latest) {
+        (Some(kept), Some(latest)) => kept <= latest && latest <= kept,
+        _ => false,
     }
 }
 

@@ -1,7 +1,7 @@
 -- The scan of a root of the load path, and the latest time of its folders.
-use Rattle.std.specs.Prelude.{ℕ, ◌-◌, ◌==◌, Bool, false, cond, not, max, Option, None, Some, List, [], ◌∷◌, ◌++◌, length, take, drop, filter, codes}
+use Rattle.std.specs.Prelude.{ℕ, ◌-◌, ◌==◌, Bool, false, cond, not, max, Option, None, Some, List, [], ◌∷◌, ◌++◌, length, take, drop, filter, map, codes}
 use Rattle.std.specs.List.{list_all, flat_map}
-use Rattle.std.specs.FinMap as map
+use Rattle.std.specs.FinMap as finite
 use Rattle.bs_outside.specs.Paths.{segments_of, same_bytes}
 use Rattle.bs_outside.specs.SourceTree.{SourceTree, is_folder, stem_of}
 use Rattle.bs_outside.specs.declared.trees.Item.{Item}
@@ -33,11 +33,11 @@ folder_below stem (path, item.Dir mtime) = shown_below stem path
 
 -- The files below a root that end in `.rb`, by their relative paths. They ascend by their bytes, since the tree's paths do.
 abbrev pub files_of : SourceTree → List ℕ → List (List ℕ)
-files_of tree root = cond (is_folder (map.get tree root)) (flat_map (file_below (stem_of root)) (map.entries tree)) []
+files_of tree root = cond (is_folder (finite.get tree root)) (flat_map (file_below (stem_of root)) (finite.entries tree)) []
 
 -- The folders below a root, likewise.
 abbrev pub folders_of : SourceTree → List ℕ → List (List ℕ)
-folders_of tree root = cond (is_folder (map.get tree root)) (flat_map (folder_below (stem_of root)) (map.entries tree)) []
+folders_of tree root = cond (is_folder (finite.get tree root)) (flat_map (folder_below (stem_of root)) (finite.entries tree)) []
 
 abbrev pub folder_time : Option Item → Option ℕ
 folder_time None = None
@@ -52,5 +52,9 @@ later (Some a) (Some b) = Some (max a b)
 
 -- The greatest time of a root and of these folders below it, and nothing where one of them is no folder.
 abbrev pub latest_of : SourceTree → List ℕ → List (List ℕ) → Option ℕ
-latest_of tree root [] = folder_time (map.get tree root)
-latest_of tree root (folder ∷ folders) = later (folder_time (map.get tree (stem_of root ++ folder))) (latest_of tree root folders)
+latest_of tree root [] = folder_time (finite.get tree root)
+latest_of tree root (folder ∷ folders) = later (folder_time (finite.get tree (stem_of root ++ folder))) (latest_of tree root folders)
+
+-- a root and these folders below it, by their paths
+abbrev pub folder_paths : List ℕ → List (List ℕ) → List (List ℕ)
+folder_paths root folders = root ∷ map (λ folder. stem_of root ++ folder) folders

@@ -11,7 +11,7 @@ use Rattle.msgpack_codec.specs.declared.value.Value.{Value}
 use Rattle.msgpack_codec.specs.declared.value.Value.TheVariants as value
 use Rattle.msgpack_codec.specs.Message.{SpellsMessage}
 use Rattle.path_meaning.specs.declared.scans.RootScan.{RootScan}
-use Rattle.path_meaning.specs.Scan.{is_plain, ends_in_rb, files_of, folders_of, latest_of}
+use Rattle.path_meaning.specs.Scan.{is_plain, ends_in_rb, files_of, folders_of, latest_of, folder_paths}
 
 -- A finite map from roots to items. An item is a scan, with no time where its root is stable.
 abbrev pub Store : Type 0
@@ -99,6 +99,11 @@ may_keep store root scan = is_some scan.latest && (few_names scan && nat_lt (fin
 -- a store after a scan of a root was put into it: the root has the scan's item, or none; the items of other roots stay
 abbrev pub store_with : Store → List ℕ → RootScan → Bool → Store
 store_with store root scan stable = cond (may_keep store root scan) (finite.insert store root (as_item scan stable)) (finite.remove store root)
+
+-- what has to be looked at of an item
+abbrev pub paths_of_item : List ℕ → Option RootScan → List (List ℕ)
+paths_of_item root None = []
+paths_of_item root (Some kept) = folder_paths root kept.dirs
 
 -- what a scan has to be so that it can be kept
 pub record CanBeKept (scan : RootScan) : Type 0 where
