@@ -15,6 +15,7 @@ from table import Compiler, Flags, Seq, Splats, Text
 ROW = re.compile(r'("(?:[^"\\]|\\.)*")  ->  (.*)', re.DOTALL)
 ESCAPE = re.compile(r"\\(?:u\{([0-9a-f]+)\}|(.))", re.DOTALL)
 SIMPLE = {"n": "\n", "t": "\t", "r": "\r", "0": "\0"}
+ESCAPES = str.maketrans({"\\": "\\\\", "\n": "\\n", "\t": "\\t", "\r": "\\r", '"': '\\"'})
 
 
 def unescaped(text):
@@ -25,9 +26,7 @@ def unescaped(text):
 
 
 def escaped(text):
-    for letter, meant in (("\\", "\\\\"), ("\n", "\\n"), ("\t", "\\t"), ("\r", "\\r"), ('"', '\\"')):
-        text = text.replace(letter, meant)
-    return text
+    return text.translate(ESCAPES)
 
 
 def operand(value):
