@@ -1,5 +1,5 @@
 -- The turns of a machine at a call: a frame goes on top, or the caller goes on with an outcome; and the file of a program.
-use Rattle.std.proofs.Common.{◌≡◌, ℕ, suc, ◌+◌, ◌≤◌, true, sym, subst, ap, ◌∙◌, arith, List, [], ◌∷◌, length, Option, Some, None}
+use Rattle.std.proofs.Common.{◌≡◌, false, ℕ, suc, ◌+◌, ◌≤◌, true, sym, subst, ap, ◌∙◌, arith, List, [], ◌∷◌, length, Option, Some, None}
 use Rattle.std.specs.Prelude.{slice_get, is_some}
 use Rattle.ruby_tree.specs.Names.{Bytes}
 use Rattle.ruby_tree.specs.Tree.{Tree}
@@ -8,7 +8,7 @@ use Rattle.iseq_types.specs.declared.sequences.SeqKind.{SeqKind}
 use Rattle.ruby_meaning.specs.Value.{Value, Code, written}
 use Rattle.ruby_meaning.specs.Store.{environment_cells, Place, find_method}
 use Rattle.ruby_meaning.specs.Locals.{locals_of}
-use Rattle.ruby_meaning.specs.World.{ruby_file, loaded, Given, no_block, Closure, World, Frame, Outcome, Run}
+use Rattle.ruby_meaning.specs.World.{ruby_file, loaded, Given, no_block, Closure, World, Frame, Outcome, Run, Full}
 use Rattle.ruby_meaning.specs.Steps.{then_do, then, changing, reading, returned, stand}
 use Rattle.ruby_meaning.specs.Calls.{with_step, spread, optional_given, all_nil, with_environment, next_environment}
 use Rattle.ruby_meaning.specs.Files.{Files, ruby_tree}
@@ -28,7 +28,7 @@ use Rattle.compile_laws.specs.Begins.{Begins, IsCodeAt}
 use Rattle.compile_laws.specs.Calling.{entering, MayRunMethod, method_environment, method_world, called_frame, method_entered, MayRunBlock, block_world, yielded_frame, block_entered, given_by, closure_given, calling_frame, calling_given, calling_world, pushed, with_block_value, at_once, enters, has_room, one_deeper, with_cells, MayLoad, file_environment, file_world, loaded_code, loaded_frame, StepCalls}
 use Rattle.compile_laws.proofs.BodyRuns.{body_runs}
 use Rattle.compile_laws.proofs.FramesBegin.{entry_keeps, method_begins, block_begins}
-use Rattle.compile_laws.proofs.Enters.{charged_room, method_enters, block_enters, file_enters}
+use Rattle.compile_laws.proofs.Enters.{charged_room, charged_full, method_enters, block_enters, file_enters}
 use Rattle.compile_laws.proofs.CallsCome.{block_given_by}
 use Rattle.compile_laws.proofs.StepsCome.{send_calls, yield_calls}
 
@@ -94,6 +94,16 @@ module _ (files : Files) where
       let few : z.turns ≤ n = let e : z.turns ≡ turns = file_turns path t turns w in let f : w.turns ≡ suc turns = may.turn in omega (arith, le) in
       file_enters files top_frame 0 path w turns t is may (eval files n)
       ∙ ap (wrapped (of_method w.depth (file_environment path t turns w))) (enough files n (loaded_code path t w).body fr z few)
+
+  pub program_full : (prelude : Tree) (p : Program) (w : World) → has_room (start_cells p) w ≡ false → program_run files prelude p w ≡ Full w
+  program_full prelude p w none = charged_full (start_cells p) (then (run_code files (eval files 0) top_frame 0 (file_code [] None prelude)) (λ v. changing (with_turns p.turns) (load_ruby files (eval files p.turns) top_frame 0 p.file))) w none
+
+  pub prelude_full : (prelude : Tree) (p : Program) (w : World) → has_room (start_cells p) w ≡ true → has_room (environment_cells (length (locals_of [] prelude))) (with_cells (start_cells p) w) ≡ false → program_run files prelude p w ≡ Full (with_cells (start_cells p) w)
+  prelude_full prelude p w room none =
+      let after : Value → Run = λ v. changing (with_turns p.turns) (load_ruby files (eval files p.turns) top_frame 0 p.file) in
+      let runs : Run = reading next_environment (λ n. changing (with_environment None (all_nil (locals_of [] prelude))) (in_file_frame files (eval files 0) top_frame 0 (file_code [] None prelude) n)) in
+      charged_room (start_cells p) (then (run_code files (eval files 0) top_frame 0 (file_code [] None prelude)) after) w room
+      ∙ ap (λ o. then_do o after) (charged_full (environment_cells (length (locals_of [] prelude))) runs (with_cells (start_cells p) w) none)
 
   -- The prelude, which is run with no turn, and then the program's file.
   pub program_begins : (prelude : Tree) (p : Program) (w : World) → w.turns ≡ 0 → has_room (start_cells p) w ≡ true → has_room (environment_cells (length (locals_of [] prelude))) (with_cells (start_cells p) w) ≡ true

@@ -17,6 +17,7 @@ pub mod FoundPrograms
 pub mod ToldTrees
 pub mod ToldPrograms
 pub mod ToldRuns
+pub mod ToldFrames
 pub mod ProgramsRun
 pub mod ReadText
 pub mod ShapeDepths

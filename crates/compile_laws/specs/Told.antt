@@ -7,10 +7,11 @@ use Rattle.iseq_types.specs.declared.sequences.SeqKind.TheVariants as kinds
 use Rattle.ruby_meaning.specs.Value.{Source, Code}
 use Rattle.ruby_meaning.specs.Sequences.{places, sequence_number}
 use Rattle.ruby_meaning.specs.Files.{Files, RubyFile, no_ruby, ruby_fault, ruby_tree}
+use Rattle.ruby_meaning.specs.World.{World, Frame}
 use Rattle.ruby_meaning.specs.Levels.{Scopes, Sight, BodyTable, Telling}
 use Rattle.compile_table.specs.Shapes.{Where}
 use Rattle.compile_table.specs.Sequences.{Compiled, sequence_at}
-use Rattle.compile_laws.specs.Begins.{IsCodeAt}
+use Rattle.compile_laws.specs.Begins.{Begins, IsCodeAt}
 use Rattle.compile_laws.specs.Found.{tables}
 
 -- what a sequence of this kind tells, if it is one of a body
@@ -53,3 +54,10 @@ pub record IsOfItsFile (files : Files) (prelude : Tree) (scopes : Scopes) (code 
   pub of_file : IsTreeOf files prelude code.source code.source.load tree
   pub inner : Where
   pub stands : IsCodeAt (tables code.source.path tree) inner scopes code
+
+-- A frame and a world in which the body of the code begins, by the tables of its file.
+pub record BeginsInItsFile (files : Files) (prelude : Tree) (code : Code) (frame : Frame) (w : World) : Type 0 where
+  pub tree : Tree
+  pub of_file : IsTreeOf files prelude code.source code.source.load tree
+  pub inner : Where
+  pub begins : Begins (tables code.source.path tree) inner code.body frame w

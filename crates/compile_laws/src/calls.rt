@@ -4,8 +4,10 @@ ghost use Rattle.std.specs.Prelude.{◌≡◌, ◌≤◌, ℕ, suc, pred, ◌+�
 ghost use Rattle.ruby_tree.specs.Names.{Bytes};
 ghost use Rattle.ruby_tree.specs.Tree.{Tree};
 ghost use Rattle.iseq_types.specs.declared.instructions.Instr.TheVariants.{ObjToString, Send, InvokeSuper, InvokeBlock, DefineClass};
-ghost use Rattle.ruby_meaning.specs.NativeName.{Control, control, control_call};
-ghost use Rattle.ruby_meaning.specs.Value.{Value, nil, no, Code, MethodBody, written, native};
+ghost use Rattle.ruby_meaning.specs.NativeName.{Control, control, control_call, Native};
+ghost use Rattle.ruby_meaning.specs.Value.{Value, nil, no, Code, MethodBody, written, native, reader, writer};
+ghost use Rattle.ruby_meaning.specs.Native.{Answer};
+ghost use Rattle.ruby_meaning.specs.NativeAnswer.{itself, native_answer};
 ghost use Rattle.ruby_meaning.specs.Numbers.{object_class, closed_classes, argument_error, type_error, local_jump_error, load_error, syntax_error, system_stack_error};
 ghost use Rattle.ruby_meaning.specs.Store.{class_cells, name_cells, environment_cells, is_one_of, next_number, class_at, class_name, name_of_class_of, Place, Found, find_method};
 ghost use Rattle.ruby_meaning.specs.Natives.{control_count};
@@ -14,8 +16,8 @@ ghost use Rattle.ruby_meaning.specs.Natives.Reading.{called};
 ghost use Rattle.ruby_meaning.specs.Locals.{params_of, locals_of};
 ghost use Rattle.ruby_meaning.specs.Constants.{own_constant, innermost};
 ghost use Rattle.ruby_meaning.specs.World.{Given, no_block, Running, Closure, Ask, World, Frame, Done, Spent, Full, Run, ruby_file, loaded, text_of, path_of, loaded_of};
-ghost use Rattle.ruby_meaning.specs.Steps.{raise_new, at_depth, ended};
-ghost use Rattle.ruby_meaning.specs.Calls.{with_step, count_of_params, has_block_param, optional_given, fits, wrong_count, spread, no_method};
+ghost use Rattle.ruby_meaning.specs.Steps.{raise_new, at_depth, ended, reading};
+ghost use Rattle.ruby_meaning.specs.Calls.{answered, counted, variable_of, set_variable, with_step, count_of_params, has_block_param, optional_given, fits, wrong_count, spread, no_method};
 ghost use Rattle.ruby_meaning.specs.Files.{Files, no_ruby, ruby_fault, ruby_tree};
 ghost use Rattle.ruby_meaning.specs.Blocks.{run_method, run_block, run_given};
 ghost use Rattle.ruby_meaning.specs.Search.{provided, found_at, missing, missing_name, resolve};
@@ -118,6 +120,9 @@ pub fn calls_run_what_is_found()
     ensures is_call_of_none { (files : Files) (frame : Frame) (line : ℕ) (self : Value) (x : Bytes) (vs : List Value) (given : Given) (place : Place) (w : World) → closure_of w.objects self ≡ None → ComesTo (λ b. run_found files b frame line self x vs given place (native (control control_call)) w) (at_once (Done nil w)) }
     ensures asks { (files : Files) (frame : Frame) (line : ℕ) (self : Value) (x : Bytes) (vs : List Value) (given : Given) (place : Place) (n : Control) (ask : Bytes → Ask) (text : Bytes) (w : World) (c : Comes) → asking n frame ≡ Some ask → fits (control_count n) (length vs) ≡ true → text_of w.objects (first_of vs) ≡ Some text → ComesTo (λ b. ask_for files b frame line (ask text) w) c → ComesTo (λ b. run_found files b frame line self x vs given place (native (control n)) w) c }
     ensures asks_without_text { (files : Files) (frame : Frame) (line : ℕ) (self : Value) (x : Bytes) (vs : List Value) (given : Given) (place : Place) (n : Control) (ask : Bytes → Ask) (w : World) → asking n frame ≡ Some ask → fits (control_count n) (length vs) ≡ true → text_of w.objects (first_of vs) ≡ None → ComesTo (λ b. run_found files b frame line self x vs given place (native (control n)) w) (at_once (raise_new frame line type_error (no_conversion (called w.objects (first_of vs)) (codes "String")) w)) }
+    ensures answers { (files : Files) (frame : Frame) (line : ℕ) (self : Value) (x : Bytes) (vs : List Value) (given : Given) (place : Place) (m : MethodBody) (n : Native) (a : Answer) (w : World) → m ≡ native n → native_answer n w.objects self vs ≡ itself a → ComesTo (λ b. run_found files b frame line self x vs given place m w) (at_once (answered frame line a w)) }
+    ensures reads { (files : Files) (frame : Frame) (line : ℕ) (self : Value) (x : Bytes) (vs : List Value) (given : Given) (place : Place) (m : MethodBody) (variable : Bytes) (w : World) → m ≡ reader variable → ComesTo (λ b. run_found files b frame line self x vs given place m w) (at_once (counted frame line (record { required = 0; optional = 0; rest = false }) (length vs) (reading (variable_of self variable) Done) w)) }
+    ensures writes { (files : Files) (frame : Frame) (line : ℕ) (self : Value) (x : Bytes) (vs : List Value) (given : Given) (place : Place) (m : MethodBody) (variable : Bytes) (w : World) → m ≡ writer variable → ComesTo (λ b. run_found files b frame line self x vs given place m w) (at_once (counted frame line (record { required = 1; optional = 0; rest = false }) (length vs) (set_variable frame line self variable (first_of vs)) w)) }
     ensures is_miscounted { (files : Files) (frame : Frame) (line : ℕ) (self : Value) (x : Bytes) (vs : List Value) (given : Given) (place : Place) (n : Control) (w : World) → fits (control_count n) (length vs) ≡ false → ComesTo (λ b. run_found files b frame line self x vs given place (native (control n)) w) (at_once (raise_new frame line argument_error (wrong_count (length vs) (control_count n)) w)) }
 {}
 

@@ -1,5 +1,5 @@
 //! That a machine puts the frame of a call on top, and that this frame begins as its sequence asks.
-ghost use Rattle.std.specs.Prelude.{◌≡◌, ℕ, ◌+◌, ◌≤◌, true, List, [], ◌∷◌, length, Option, Some, None, is_some, slice_get};
+ghost use Rattle.std.specs.Prelude.{◌≡◌, ℕ, ◌+◌, ◌≤◌, true, List, [], ◌∷◌, length, Option, Some, None, is_some, slice_get, false};
 ghost use Rattle.ruby_tree.specs.Names.{Bytes};
 ghost use Rattle.ruby_tree.specs.Tree.{Tree};
 ghost use Rattle.iseq_types.specs.declared.instructions.Instr.TheVariants.{Send, InvokeBlock};
@@ -7,7 +7,7 @@ ghost use Rattle.iseq_types.specs.declared.sequences.SeqKind.{SeqKind};
 ghost use Rattle.ruby_meaning.specs.Value.{Value, Source, Code, written};
 ghost use Rattle.ruby_meaning.specs.Store.{environment_cells, Place, find_method};
 ghost use Rattle.ruby_meaning.specs.Locals.{locals_of};
-ghost use Rattle.ruby_meaning.specs.World.{Given, no_block, Closure, World, Frame, Outcome, Run};
+ghost use Rattle.ruby_meaning.specs.World.{Given, no_block, Closure, World, Frame, Outcome, Run, Full};
 ghost use Rattle.ruby_meaning.specs.Steps.{then_do, changing, returned, stand};
 ghost use Rattle.ruby_meaning.specs.Calls.{enter, spread, optional_given, all_nil, with_environment, next_environment};
 ghost use Rattle.ruby_meaning.specs.Files.{Files, ruby_tree};
@@ -66,8 +66,11 @@ pub fn made_codes_stand()
 
 /// A program is the body of the prelude, which is run with no turn, and then the load of its file,
 /// which comes to the file's body as every load does. What each of the two bodies does is what it
-/// means, at any number of turns.
+/// means, at any number of turns. Where what the start costs, or the prelude's environment, passes the
+/// cells, the store is full.
 pub fn programs_load_their_file()
     ensures begins { (files : Files) (prelude : Tree) (p : Program) (w : World) → w.turns ≡ 0 → has_room (start_cells p) w ≡ true → has_room (environment_cells (length (locals_of [] prelude))) (with_cells (start_cells p) w) ≡ true → program_run files prelude p w ≡ then_do (returned (next_environment w) (evaluate files (file_body prelude) (file_frame (file_code [] None prelude) (next_environment w) (stand top_frame 0) top_frame.running top_frame.calling) (with_environment None (all_nil (locals_of [] prelude)) (with_cells (environment_cells (length (locals_of [] prelude))) (with_cells (start_cells p) w))))) (λ v. changing (with_turns p.turns) (load_ruby files (eval files p.turns) top_frame 0 p.file)) }
+    ensures full { (files : Files) (prelude : Tree) (p : Program) (w : World) → has_room (start_cells p) w ≡ false → program_run files prelude p w ≡ Full w }
+    ensures prelude_full { (files : Files) (prelude : Tree) (p : Program) (w : World) → has_room (start_cells p) w ≡ true → has_room (environment_cells (length (locals_of [] prelude))) (with_cells (start_cells p) w) ≡ false → program_run files prelude p w ≡ Full (with_cells (start_cells p) w) }
     ensures file { (files : Files) (n : ℕ) (path : Bytes) (t : Tree) (turns : ℕ) (w : World) → files.ruby path ≡ ruby_tree t → w.turns ≤ n → MayLoad path t turns w → load_ruby files (eval files n) top_frame 0 path w ≡ wrapped (of_method w.depth (file_environment path t turns w)) (evaluate files (loaded_code path t w).body (loaded_frame top_frame 0 path t turns w) (file_world path t turns w)) }
 {}

@@ -5,9 +5,9 @@ ghost use Rattle.bs_outside.specs.SourceTree.{SourceTree, bytes_at};
 ghost use Rattle.ruby_tree.specs.Names.{Bytes};
 ghost use Rattle.ruby_tree.specs.Tree.{SourcePosition, Tree, at, class, module_named, Other};
 ghost use Rattle.ruby_tree.specs.Placement.{Around};
-ghost use Rattle.ruby_meaning.specs.Value.{Code, written};
+ghost use Rattle.ruby_meaning.specs.Value.{Value, Code, written};
 ghost use Rattle.ruby_meaning.specs.Store.{Place, Found, find_in};
-ghost use Rattle.ruby_meaning.specs.World.{Closure, World, Frame, Run, world_of};
+ghost use Rattle.ruby_meaning.specs.World.{Given, Closure, World, Frame, Run, world_of};
 ghost use Rattle.ruby_meaning.specs.Files.{Files};
 ghost use Rattle.ruby_meaning.specs.FilesOf.{DataReader, IsRubyFile, files_of};
 ghost use Rattle.ruby_meaning.specs.PlainRun.{Program, IsPrelude, prelude_of_text, program_run, start_world};
@@ -18,9 +18,9 @@ ghost use Rattle.ruby_meaning.specs.Stored.{IsStored};
 ghost use Rattle.ruby_meaning.specs.Housed.{source_of, WorldHoused, InPlace, StaysHoused, AreHoused};
 ghost use Rattle.code_meaning.specs.Frames.{Tables};
 ghost use Rattle.compile_table.specs.Shapes.{Where};
-ghost use Rattle.compile_laws.specs.Calling.{class_world, opened_frame};
+ghost use Rattle.compile_laws.specs.Calling.{class_world, opened_frame, called_frame, method_world, yielded_frame, block_world};
 ghost use Rattle.compile_laws.specs.Begins.{Begins, IsCodeAt};
-ghost use Rattle.compile_laws.specs.Told.{told_by, IsOfItsFile};
+ghost use Rattle.compile_laws.specs.Told.{told_by, IsOfItsFile, BeginsInItsFile};
 
 /// In what the files of a source tree and the prelude are read as, each body is one of the program of
 /// its file. Each step of a plain run whose bodies keep this keeps it, so does the evaluation, and
@@ -40,6 +40,13 @@ pub fn runs_keep_codes_of_files()
 pub fn codes_of_runs_are_found()
     ensures method { (source : SourceTree) (files : Files) (prelude : Tree) → ((path : Bytes) → IsRubyFile (bytes_at source path) (files.ruby path)) → IsPrelude prelude → (w : World) → IsStored w → WorldHoused (told_by files prelude) w → (x : Bytes) (ps : List Place) (f : Found) (code : Code) → find_in w.objects x ps ≡ Some f → f.body ≡ written code → IsOfItsFile files prelude [] code }
     ensures block { (source : SourceTree) (files : Files) (prelude : Tree) → ((path : Bytes) → IsRubyFile (bytes_at source path) (files.ruby path)) → IsPrelude prelude → (w : World) → IsStored w → WorldHoused (told_by files prelude) w → (i : ℕ) (d : Closure) → slice_get w.closures i ≡ Some d → (scopes : Scopes) × IsOfItsFile files prelude scopes d.code × HaveNames (length w.environments) scopes w.environments (Some d.environment) }
+{}
+
+/// So the frame of a call of a method that is found there begins where its code stands in the unit of
+/// its file, and so does the frame of a call of a block. Nothing else is asked of the code.
+pub fn frames_of_runs_begin()
+    ensures method { (source : SourceTree) (files : Files) (prelude : Tree) → ((path : Bytes) → IsRubyFile (bytes_at source path) (files.ruby path)) → IsPrelude prelude → (w : World) → IsStored w → WorldHoused (told_by files prelude) w → (x : Bytes) (ps : List Place) (f : Found) (code : Code) → find_in w.objects x ps ≡ Some f → f.body ≡ written code → (frame : Frame) (line : ℕ) (self : Value) (name : Bytes) (place : Place) (vs : List Value) (given : Given) (turns : ℕ) → BeginsInItsFile files prelude code (called_frame frame line code self name place vs given turns w) (method_world code vs given turns w) }
+    ensures block { (source : SourceTree) (files : Files) (prelude : Tree) → ((path : Bytes) → IsRubyFile (bytes_at source path) (files.ruby path)) → IsPrelude prelude → (w : World) → IsStored w → WorldHoused (told_by files prelude) w → (i : ℕ) (d : Closure) → slice_get w.closures i ≡ Some d → (frame : Frame) (line k : ℕ) (vs : List Value) (turns : ℕ) → BeginsInItsFile files prelude d.code (yielded_frame frame line d k vs turns w) (block_world d vs turns w) }
 {}
 
 /// So has the body that a class or a module opens where it is in place, and its frame begins where
