@@ -33,8 +33,7 @@ pub fn collection<'a, N: Nodes<'a>>(
         Collection::Array(elements, splats) => array(emitter, below, line, elements, splats, out),
         Collection::Hash(pairs) => hash(emitter, below, line, pairs, out),
         Collection::Range(first, last, exclusive) => {
-            out.code
-                .write(line, Instr::NewRange(*exclusive as u64))?;
+            out.code.write(line, Instr::NewRange(*exclusive as u64))?;
             below.node(emitter, 1, last, out)?;
             below.node(emitter, 0, first, out)
         }
