@@ -7,7 +7,8 @@ use Rattle.ruby_tree.specs.Tree.{Tree, at, Form, nil_value, true_value, false_va
 use Rattle.iseq_types.specs.declared.sequences.SeqKind.TheVariants as kinds
 use Rattle.compile_table.specs.Shapes.{Where, looped}
 use Rattle.compile_table.specs.Sequences.{Compiled, sequences, form_sequences, block_sequences, trees_sequences, other_sequences, pairs_sequences, pieces_sequences, whens_sequences, clauses_sequences, params_sequences}
-use Rattle.yarv_compile.specs.Children.{Child, child, direct, form_direct, block_direct, trees_direct, other_direct, pairs_direct, pieces_direct, whens_direct, patterns_direct, clauses_direct, classes_direct, params_direct, inner_of, compiled_child, under, all_under}
+use Rattle.code_emitter.specs.Children.{Child, child, direct, form_direct, block_direct, trees_direct, other_direct, pairs_direct, pieces_direct, whens_direct, patterns_direct, clauses_direct, classes_direct, params_direct}
+use Rattle.yarv_compile.specs.Children.{inner_of, compiled_child, under, all_under}
 use Rattle.yarv_compile.proofs.Reordered.{◌▸◌, of_same, joined as beside, turned, mixed, parted}
 
 all_under_both : (l : Where) (cs ds : List Child) → all_under l (cs ++ ds) ≡ all_under l cs ++ all_under l ds

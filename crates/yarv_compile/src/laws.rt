@@ -10,7 +10,8 @@ ghost use Rattle.ruby_tree.specs.Reading.{Reads};
 ghost use Rattle.ruby_meaning.specs.Sequences.{places, sequence_number};
 ghost use Rattle.compile_table.specs.Shapes.{Where};
 ghost use Rattle.compile_table.specs.Sequences.{Compiled, in_file, sequences, by_places, sequences_of, sequence_at};
-ghost use Rattle.yarv_compile.specs.Children.{Child, direct, inner_of, compiled_child, under, all_under, places_in};
+ghost use Rattle.code_emitter.specs.Children.{Child, direct};
+ghost use Rattle.yarv_compile.specs.Children.{inner_of, compiled_child, under, all_under, places_in};
 
 /// The sequences of a tree are those that stand directly in it and those within these, in another
 /// order. So is a child with all within it the child and those that stand directly in its tree,
