@@ -1,0 +1,79 @@
+-- The tests and the bodies of clauses.
+use Rattle.std.proofs.Common.{◌≡◌, ℕ, suc, ◌+◌, ◌-◌, List, [], ◌∷◌, length, Option, Some, None, refl, ap, sym, ◌∙◌, arith}
+use Rattle.ruby_tree.specs.Names.{Bytes}
+use Rattle.ruby_tree.specs.Tree.{Tree, Trees, no_more, more, Rescues, no_clause, clause}
+use Rattle.iseq_types.specs.declared.instructions.Instr.TheVariants.{Dup, CheckMatch, BranchIf, Leave}
+use Rattle.code_meaning.specs.Code.{Shape, done, op, ahead, part, size}
+use Rattle.compile_table.specs.Shapes.{Where, shape, clauses_shape, clause_shape, classes_shape, bodies_shape, named}
+use Rattle.code_writer.specs.Writing.{Writing, grown}
+use Rattle.code_writer.proofs.Growing.{grown_length}
+
+-- ---- seams
+
+pub named_seam : (l : Where) (line h : ℕ) (x : Option Bytes) (s : Shape) (w : Writing) → grown h (named l line x s) w ≡ grown h (named l line x done) (grown h s w)
+named_seam l line h None s w = refl
+named_seam l line h (Some x) s w = refl
+
+pub bodies_before : (l : Where) (line h : ℕ) (ts : Trees) (x : Option Bytes) (t : Tree) (cs : Rescues) (w : Writing) → grown h (bodies_shape l (clause ts x t cs) line) w ≡ grown h (named l line x (part 0 (shape l t) (op line Leave done))) (grown h (bodies_shape l cs line) w)
+bodies_before l line h ts None t cs w = refl
+bodies_before l line h ts (Some x) t cs w = refl
+
+classes_seam : (l : Where) (line h far : ℕ) (ts : Trees) (s : Shape) (w : Writing) → grown h (classes_shape l ts line far s) w ≡ grown h (classes_shape l ts line far done) (grown h s w)
+classes_seam l line h far no_more s w = refl
+classes_seam l line h far (more t ts) s w = ap (λ v. grown h (op line Dup (part 1 (shape l t) (op line CheckMatch (ahead line BranchIf (size (classes_shape l ts line 0 done) + far) done)))) v) (classes_seam l line h far ts s w)
+
+clause_seam : (l : Where) (line h far : ℕ) (ts : Trees) (s : Shape) (w : Writing) → grown h (clause_shape l ts line far s) w ≡ grown h (clause_shape l ts line far done) (grown h s w)
+clause_seam l line h far no_more s w = refl
+clause_seam l line h far (more t ts) s w = classes_seam l line h far (more t ts) s w
+
+pub clauses_seam : (l : Where) (line h far : ℕ) (cs : Rescues) (s : Shape) (w : Writing) → grown h (clauses_shape l cs line far s) w ≡ grown h (clauses_shape l cs line far done) (grown h s w)
+clauses_seam l line h far no_clause s w = refl
+clauses_seam l line h far (clause ts x t cs) s w =
+    clause_seam l line h _ ts _ w
+    ∙ ap (grown h (clause_shape l ts line (size (clauses_shape l cs line 0 done) + 1 + far) done)) (clauses_seam l line h (far + size (named l line x (part 0 (shape l t) (op line Leave done)))) cs s w)
+    ∙ sym (clause_seam l line h _ ts _ (grown h s w))
+
+-- ---- sizes
+
+-- the tests of classes are as long wherever they jump to
+classes_size : (l : Where) (line m n : ℕ) (ts : Trees) (r s : Shape) → size r ≡ size s → size (classes_shape l ts line m r) ≡ size (classes_shape l ts line n s)
+classes_size l line m n no_more r s e = e
+classes_size l line m n (more t ts) r s e = let f = classes_size l line m n ts r s e in omega arith
+
+clause_size : (l : Where) (line m n : ℕ) (ts : Trees) (r s : Shape) → size r ≡ size s → size (clause_shape l ts line m r) ≡ size (clause_shape l ts line n s)
+clause_size l line m n no_more r s e = omega arith
+clause_size l line m n (more t ts) r s e = classes_size l line m n (more t ts) r s e
+
+clauses_size : (l : Where) (line m n : ℕ) (cs : Rescues) → size (clauses_shape l cs line m done) ≡ size (clauses_shape l cs line n done)
+clauses_size l line m n no_clause = refl
+clauses_size l line m n (clause ts x t cs) = clause_size l line _ _ ts _ _ (clauses_size l line _ _ cs)
+
+pub bodies_size : (l : Where) (line : ℕ) (ts : Trees) (x : Option Bytes) (t : Tree) (cs : Rescues) → size (bodies_shape l (clause ts x t cs) line) ≡ size (named l line x (part 0 (shape l t) (op line Leave done))) + size (bodies_shape l cs line)
+bodies_size l line ts None t cs = omega arith
+bodies_size l line ts (Some x) t cs = omega arith
+
+-- ---- a test before those behind it
+
+pub class_step : (l : Where) (line h start far : ℕ) (t : Tree) (ts : Trees) (first old new : Writing) → length first.steps ≡ far + start → old ≡ grown h (classes_shape l ts line far done) first → new ≡ grown h (op line Dup (part 1 (shape l t) (op line CheckMatch (ahead line BranchIf (length old.steps - start) done)))) old → new ≡ grown h (classes_shape l (more t ts) line far done) first
+class_step l line h start far t ts first old new place is told =
+    let counts = ap (λ (w : Writing). length w.steps) is in
+    let grows = grown_length h (classes_shape l ts line far done) first in
+    let sizes = classes_size l line far 0 ts done done refl in
+    let over : length old.steps - start ≡ size (classes_shape l ts line 0 done) + far = omega arith in
+    told
+    ∙ ap (λ n. grown h (op line Dup (part 1 (shape l t) (op line CheckMatch (ahead line BranchIf n done)))) old) over
+    ∙ ap (grown h (op line Dup (part 1 (shape l t) (op line CheckMatch (ahead line BranchIf (size (classes_shape l ts line 0 done) + far) done))))) is
+
+pub clause_step : (l : Where) (line h n total start far : ℕ) (ts : Trees) (x : Option Bytes) (t : Tree) (cs : Rescues) (first old new : Writing) → length first.steps ≡ suc (total + n) → start ≡ size (bodies_shape l (clause ts x t cs) line) + n → ((m : ℕ) → m + size (bodies_shape l cs line) ≡ total → old ≡ grown h (clauses_shape l cs line m done) first) → ((m : ℕ) → length old.steps ≡ m + start → new ≡ grown h (clause_shape l ts line m done) old) → far + size (bodies_shape l (clause ts x t cs) line) ≡ total → new ≡ grown h (clauses_shape l (clause ts x t cs) line far done) first
+clause_step l line h n total start far ts x t cs first old new place begins behind test here =
+    let m : ℕ = far + size (named l line x (part 0 (shape l t) (op line Leave done))) in
+    let bodies = bodies_size l line ts x t cs in
+    let rest : m + size (bodies_shape l cs line) ≡ total = omega arith in
+    let is = behind m rest in
+    let counts = ap (λ (w : Writing). length w.steps) is in
+    let grows = grown_length h (clauses_shape l cs line m done) first in
+    let sizes = clauses_size l line m 0 cs in
+    let over : length old.steps ≡ (size (clauses_shape l cs line 0 done) + 1 + far) + start = omega arith in
+    test (size (clauses_shape l cs line 0 done) + 1 + far) over
+    ∙ ap (grown h (clause_shape l ts line (size (clauses_shape l cs line 0 done) + 1 + far) done)) is
+    ∙ sym (clause_seam l line h (size (clauses_shape l cs line 0 done) + 1 + far) ts (clauses_shape l cs line m done) first)
