@@ -1,5 +1,5 @@
 -- Code that is followed by a rest is written behind the rest.
-use Rattle.std.proofs.Common.{◌≡◌, ℕ, zero, suc, ◌+◌, List, [], ◌∷◌, length, refl, ap, sym, ◌∙◌}
+use Rattle.std.proofs.Common.{◌≡◌, ◌≤◌, ℕ, zero, suc, ◌+◌, List, [], ◌∷◌, length, refl, ap, sym, ◌∙◌, subst, add-zero, arith}
 use Rattle.ruby_tree.specs.declared.node.Node.{Node}
 use Rattle.ruby_tree.specs.Names.{Texts}
 use Rattle.ruby_tree.specs.Tree.{Trees, no_more, more, Other, without, with}
@@ -32,3 +32,12 @@ values_seam l h line (more t (more u us)) s w = args_seam l h 0 (more t (more u 
 pub count_all : (texts : Texts) (ns : List Node) → count (read_all texts ns) ≡ length ns
 count_all texts [] = refl
 count_all texts (n ∷ ns) = ap suc (count_all texts ns)
+
+-- what holds when a loop that counts down has ended
+pub at_first : (P : ℕ → Type 0) (i : ℕ) → i ≤ 0 → P i → P 0
+at_first P zero less holds = holds
+at_first P (suc i) less holds = absurd (omega (arith, less))
+
+-- nothing deeper
+pub no_deeper : (P : ℕ → Type 0) (d : ℕ) → P (d + 0) → P d
+no_deeper P d holds = subst P (add-zero d) holds

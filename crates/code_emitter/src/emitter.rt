@@ -113,6 +113,13 @@ impl<'s, 'a> Emitter<'s, 'a> {
         Ok(texts)
     }
 
+    /// The places of arguments that are spread.
+    pub fn splats(&self, places: &[u64]) -> Result<Items<u64>, NoMemory>
+        ensures { IfOk result (λ splats. splats ≡ places.now) }
+    {
+        Ok(Items::from_vec(Vec::from_slice(self.alloc, places)?))
+    }
+
     /// Reads a local.
     pub fn get_local(&self, name: Name) -> Instr
         ensures { result ≡ get_local (where_of self.now) (text_of_name (texts_of self.now) name) }

@@ -45,7 +45,7 @@ impl<'a> Output<'a> {
     /// Notes a sequence that was found.
     pub fn note(&mut self, child: Child<'a>) -> Result<(), NoMemory>
         ensures code { OnOk result (written self.new ≡ written self.old) }
-        ensures children { (texts : Texts) → OnOk result (children_of texts self.new ≡ children_of texts self.old ++ child_of texts child ∷ []) }
+        ensures children { (texts : Texts) → OnOk result (children_of texts self.new ≡ children_of texts self.old ++ child_of texts child.entry ∷ []) }
     {
         self.children.push(child)?;
         Ok(())

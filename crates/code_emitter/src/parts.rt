@@ -110,8 +110,9 @@ fn gather<'a>(
     match count {
         0 => out.code.write(line, Instr::PutNil),
         1 => Ok(()),
-        count => out
-            .code
-            .write(line, Instr::NewArray(count as u64, Items::new(emitter.alloc))),
+        count => out.code.write(
+            line,
+            Instr::NewArray(count as u64, Items::new(emitter.alloc)),
+        ),
     }
 }

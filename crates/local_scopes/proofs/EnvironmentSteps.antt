@@ -6,6 +6,7 @@ use Rattle.std.proofs.lemmas.Option.{slice_get-get_or, get_or_from_slice_get}
 use Rattle.std.proofs.lemmas.List.{at_drop_more, take_more, map-append, reverse-append}
 use Rattle.std.proofs.lemmas.List.Folds.{list_any-append}
 use Rattle.ruby_lexer.specs.Bytes.{Bytes, same, is_in}
+use Rattle.ruby_tree.specs.declared.names.Name.{Name}
 use Rattle.ruby_tree.specs.declared.node.Param.{Param}
 use Rattle.ruby_tree.specs.declared.node.Param.TheVariants as param
 use Rattle.ruby_tree.specs.declared.node.Node.{Node}
@@ -299,6 +300,13 @@ params-told items slice rest e os ps same_items view is told =
     ∙ told e.symbols.now
     ∙ params-as e.kind (tree_in e) (sight (map open_of (reverse rest)))
     ∙ sym (ap (λ (x : List Open). names_of_params (params_of (sight x).body)) os_is)
+
+-- the text of a name in the innermost body
+pub text-told : (slice rest : List Environment) (e : Environment) (name : Name) (x : Bytes) → slice ≡ rest ++ e ∷ [] → x ≡ text_of_name e.symbols.now name → x ≡ text_of_name (innermost_texts (map open_of (reverse slice))) name
+text-told slice rest e name x is told = told ∙ sym (ap (λ (os : List Open). text_of_name (innermost_texts os) name) (ap (map open_of) (last-first slice e rest is)))
+
+pub text-viewed : (items slice : List Environment) (os : List Open) (name : Name) (x : Bytes) → slice ≡ items → map open_of (reverse items) ≡ os → x ≡ text_of_name (innermost_texts (map open_of (reverse slice))) name → x ≡ text_of_name (innermost_texts os) name
+text-viewed items slice os name x same view is = is ∙ ap (λ (os : List Open). text_of_name (innermost_texts os) name) (ap (λ es. map open_of (reverse es)) same ∙ view)
 
 -- a body more
 pub opened-push : (items new : List Environment) (e : Environment) (o : Open) (os : List Open) → new ≡ items ++ e ∷ [] → open_of e ≡ o → map open_of (reverse items) ≡ os → map open_of (reverse new) ≡ o ∷ os

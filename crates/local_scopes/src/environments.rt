@@ -4,7 +4,7 @@ ghost use Rattle.std.specs.List.{IsDistinct};
 ghost use Rattle.ruby_lexer.specs.Bytes.{is_in, same};
 ghost use Rattle.ruby_tree.specs.Names.{Texts};
 ghost use Rattle.ruby_tree.specs.FirstFault.{param_name};
-ghost use Rattle.ruby_tree.specs.Read.{tree_of};
+ghost use Rattle.ruby_tree.specs.Read.{tree_of, text_of_name};
 ghost use Rattle.ruby_tree.specs.Views.{read_kind, read_params, read_definition};
 ghost use Rattle.ruby_meaning.specs.Locals.{params_of, params_in, names_of_params, without_names};
 ghost use Rattle.ruby_meaning.specs.Levels.{level_of, slot_of};
@@ -234,5 +234,15 @@ pub(crate) fn innermost_params<'a>(around: &[Environment<'a>]) -> &'a [Param<Nod
     match around.split_last() {
         Some((environment, _)) => params_within(environment.kind, environment.body),
         None => &[],
+    }
+}
+
+/// The text of a name in the innermost body.
+pub(crate) fn innermost_text<'a>(around: &[Environment<'a>], name: Name) -> &'a [u8]
+    ensures { result.now ≡ text_of_name (innermost_texts (map open_of (reverse around.now))) name }
+{
+    match around.split_last() {
+        Some((environment, _)) => environment.symbols.text(name),
+        None => b"",
     }
 }

@@ -1,17 +1,17 @@
 //! Where the locals in sight are.
 ghost use Rattle.std.specs.Prelude.{◌≡◌, List, [], ◌∷◌, map, drop, OnOk, OnErr, IfOk};
-ghost use Rattle.ruby_tree.specs.Read.{tree_of};
+ghost use Rattle.ruby_tree.specs.Read.{tree_of, text_of_name};
 ghost use Rattle.ruby_tree.specs.Views.{read_params};
 ghost use Rattle.ruby_meaning.specs.Locals.{params_of, names_of_params};
 ghost use Rattle.ruby_meaning.specs.Levels.{file_sight, body_sight, block_sight, level_of, slot_of};
 ghost use Rattle.local_scopes.specs.Opened.{sights, sight, innermost_names, innermost_texts};
 
 use crate::environments::{
-    Environment, Local, find_in, innermost_names, innermost_params, open_body,
+    Environment, Local, find_in, innermost_names, innermost_params, innermost_text, open_body,
 };
 use crate::kinds::BodyKind;
 use bs_outside::NoMemory;
-use ruby_tree::{Node, Param, SymbolTable};
+use ruby_tree::{Name, Node, Param, SymbolTable};
 use std::alloc::Global;
 use std::marker::Model;
 
@@ -117,5 +117,12 @@ impl<'a> LocalScopes<'a> {
         ensures { names_of_params (read_params (innermost_texts self.now) result.now) ≡ names_of_params (params_of (sight self.now).body) }
     {
         innermost_params(&self.open)
+    }
+
+    /// The text of a name in the innermost body, which has no bytes where that has no such name.
+    pub fn text(&self, name: Name) -> &'a [u8]
+        ensures { result.now ≡ text_of_name (innermost_texts self.now) name }
+    {
+        innermost_text(&self.open, name)
     }
 }
