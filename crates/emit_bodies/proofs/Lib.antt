@@ -1,2 +1,3 @@
-pub mod Clauses
-pub mod Params
+pub mod ClauseSteps
+pub mod HandlerSteps
+pub mod ParamSteps

@@ -1,7 +1,7 @@
 //! The bodies of methods, classes, modules and blocks, and that of a file.
 ghost use Rattle.std.specs.Prelude.{◌≡◌, ℕ, ◌+◌, ◌++◌, length, reverse, OnOk, IfOk};
-ghost use Rattle.ruby_tree.specs.Tree.{Params, no_param};
-ghost use Rattle.ruby_tree.specs.Read.{tree_of};
+ghost use Rattle.ruby_tree.specs.Tree.{Params, no_param, optional};
+ghost use Rattle.ruby_tree.specs.Read.{tree_of, text_of_name};
 ghost use Rattle.ruby_tree.specs.Views.{read_param, read_params};
 ghost use Rattle.iseq_types.specs.declared.instructions.Instr.TheVariants.{Leave};
 ghost use Rattle.code_meaning.specs.Code.{op, done, part, size};
@@ -13,11 +13,11 @@ ghost use Rattle.emit_bodies.specs.Entries.{starts};
 use bs_outside::NoMemory;
 use code_emitter::{Emitter, Nodes, Output};
 use iseq_types::Instr;
-use ruby_tree::{Node, Param};
+use ruby_tree::{Name, Node, Param};
 
 /// Writes the code of a body with parameters, and answers where it begins: how many instructions
 /// stand behind it with none of the optional ones given, with one, up to all.
-#[tactic(auto, using(crate::proofs::Params::params_seam))]
+#[tactic(auto, using(crate::proofs::ParamSteps::params_seam))]
 pub fn definition_body<'a, N: Nodes<'a>>(
     emitter: &Emitter<'_, 'a>,
     below: &N,
@@ -65,14 +65,14 @@ fn optionals<'a, N: Nodes<'a>>(
     let mut places = Vec::new(emitter.alloc);
     places.push(out.code.len())?;
     for i in (0..params.len()).rev() {
-        optional(emitter, below, &params[i], &mut places, out)?;
+        parameter(emitter, below, &params[i], &mut places, out)?;
     }
     places.reverse();
     Ok(places)
 }
 
 /// Writes the code of a parameter, where it may be left out, and notes that a body begins there.
-fn optional<'a, N: Nodes<'a>>(
+fn parameter<'a, N: Nodes<'a>>(
     emitter: &Emitter<'_, 'a>,
     below: &N,
     param: &'a Param<Node>,
@@ -87,13 +87,27 @@ fn optional<'a, N: Nodes<'a>>(
     match param {
         Param::Required(_) => Ok(()),
         Param::Optional(name, tree) => {
-            out.code
-                .write(emitter.first, emitter.set_local(*name))?;
-            below.node(emitter, 0, tree, out)?;
+            default(emitter, below, *name, tree, out)?;
             places.push(out.code.len())?;
             Ok(())
         }
         Param::Rest(_) => Ok(()),
         Param::Block(_) => Ok(()),
     }
+}
+
+/// Writes the code that gives a parameter what it is where no argument is given.
+fn default<'a, N: Nodes<'a>>(
+    emitter: &Emitter<'_, 'a>,
+    below: &N,
+    name: Name,
+    tree: &'a Node,
+    out: &mut Output<'a>,
+) -> Result<(), NoMemory>
+    requires { N.IsReady below.now }
+    ensures code { OnOk result (Writes emitter.now.depth (params_shape (where_of emitter.now) (optional (text_of_name (texts_of emitter.now) name) (tree_of (texts_of emitter.now) tree.now) no_param) done) out.old out.new) }
+    ensures children { OnOk result (Finds (texts_of emitter.now) (direct emitter.now.in_loop (tree_of (texts_of emitter.now) tree.now)) out.old out.new) }
+{
+    out.code.write(emitter.first, emitter.set_local(name))?;
+    below.node(emitter, 0, tree, out)
 }

@@ -47,7 +47,6 @@ fn bodies<'a, N: Nodes<'a>>(
     ensures code { OnOk result (Writes emitter.now.depth (bodies_shape (where_of emitter.now) (read_clauses (texts_of emitter.now) clauses.now) line) out.old out.new) }
     ensures children { OnOk result (Finds (texts_of emitter.now) (clauses_direct emitter.now.in_loop (read_clauses (texts_of emitter.now) clauses.now)) out.old out.new) }
     ensures starts { IfOk result (λ starts. starts.items ≡ clause_starts (where_of emitter.now) line (length (written out.old).steps) (read_clauses (texts_of emitter.now) clauses.now)) }
-    ensures count { IfOk result (λ starts. length starts.items ≡ length clauses.now) }
 {
     let mut starts = Vec::new(emitter.alloc);
     for i in (0..clauses.len()).rev() {
@@ -60,7 +59,7 @@ fn bodies<'a, N: Nodes<'a>>(
 }
 
 /// Writes the code of the body of a clause, which begins with its name if it has one.
-#[tactic(auto, using(crate::proofs::Clauses::named_seam))]
+#[tactic(auto, using(crate::proofs::ClauseSteps::named_seam))]
 fn body<'a, N: Nodes<'a>>(
     emitter: &Emitter<'_, 'a>,
     below: &N,

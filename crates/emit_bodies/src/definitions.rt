@@ -50,10 +50,10 @@ fn method<'a>(
     line: u64,
     name: Name,
     tree: &'a Node,
-    on_self: bool,
+    of_self: bool,
     out: &mut Output<'a>,
 ) -> Result<(), NoMemory>
-    ensures code { OnOk result (Writes emitter.now.depth (op line (DefineMethod (text_of_name (texts_of emitter.now) name) (suc (number_of (where_of emitter.now) (tree_of (texts_of emitter.now) tree.now))) (on_self on_self)) (op line (PutObject (Sym (text_of_name (texts_of emitter.now) name))) done)) out.old out.new) }
+    ensures code { OnOk result (Writes emitter.now.depth (op line (DefineMethod (text_of_name (texts_of emitter.now) name) (suc (number_of (where_of emitter.now) (tree_of (texts_of emitter.now) tree.now))) (on_self of_self)) (op line (PutObject (Sym (text_of_name (texts_of emitter.now) name))) done)) out.old out.new) }
     ensures children { OnOk result (Finds (texts_of emitter.now) (child kinds.Method (text_of_name (texts_of emitter.now) name) emitter.now.in_loop (tree_of (texts_of emitter.now) tree.now) ∷ []) out.old out.new) }
 {
     let seq = found(emitter, SeqKind::Method, name, tree, out)?;
@@ -61,7 +61,7 @@ fn method<'a>(
     out.code.write(line, Instr::PutObject(symbol))?;
     let text = emitter.text(name)?;
     out.code
-        .write(line, Instr::DefineMethod(text, seq, on_self as u64))
+        .write(line, Instr::DefineMethod(text, seq, of_self as u64))
 }
 
 /// Writes the code of a class.

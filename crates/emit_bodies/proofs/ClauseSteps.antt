@@ -44,9 +44,11 @@ clause_size : (l : Where) (line m n : ℕ) (ts : Trees) (r s : Shape) → size r
 clause_size l line m n no_more r s e = omega arith
 clause_size l line m n (more t ts) r s e = classes_size l line m n (more t ts) r s e
 
-clauses_size : (l : Where) (line m n : ℕ) (cs : Rescues) → size (clauses_shape l cs line m done) ≡ size (clauses_shape l cs line n done)
+clauses_size : (l : Where) (line : ℕ) (m n : ℕ) (cs : Rescues) → size (clauses_shape l cs line m done) ≡ size (clauses_shape l cs line n done)
 clauses_size l line m n no_clause = refl
-clauses_size l line m n (clause ts x t cs) = clause_size l line _ _ ts _ _ (clauses_size l line _ _ cs)
+clauses_size l line m n (clause ts x t cs) =
+    let k = size (named l line x (part 0 (shape l t) (op line Leave done))) in
+    clause_size l line (size (clauses_shape l cs line 0 done) + 1 + m) (size (clauses_shape l cs line 0 done) + 1 + n) ts (clauses_shape l cs line (m + k) done) (clauses_shape l cs line (n + k) done) (clauses_size l line (m + k) (n + k) cs)
 
 pub bodies_size : (l : Where) (line : ℕ) (ts : Trees) (x : Option Bytes) (t : Tree) (cs : Rescues) → size (bodies_shape l (clause ts x t cs) line) ≡ size (named l line x (part 0 (shape l t) (op line Leave done))) + size (bodies_shape l cs line)
 bodies_size l line ts None t cs = omega arith
