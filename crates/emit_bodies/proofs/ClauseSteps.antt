@@ -1,12 +1,19 @@
 -- The tests and the bodies of clauses.
-use Rattle.std.proofs.Common.{◌≡◌, ℕ, suc, ◌+◌, ◌-◌, List, [], ◌∷◌, length, Option, Some, None, refl, ap, sym, ◌∙◌, arith}
-use Rattle.ruby_tree.specs.Names.{Bytes}
+use Rattle.std.proofs.Common.{◌≡◌, ℕ, zero, suc, ◌+◌, ◌-◌, ◌<◌, ◌==◌, false, List, [], ◌∷◌, ◌++◌, length, reverse, drop, get_or, Option, Some, None, Vec, refl, ap, sym, ◌∙◌, arith}
+use Rattle.std.proofs.lemmas.Grind.{reverse_onto}
+use Rattle.std.specs.declared.alloc.Global.{Global}
+use Rattle.ruby_tree.specs.declared.names.Name.{Name}
+use Rattle.ruby_tree.specs.declared.node.Node.{Node}
+use Rattle.ruby_tree.specs.Names.{Bytes, Texts}
+use Rattle.ruby_tree.specs.Views.{read_all, read_clauses}
 use Rattle.ruby_tree.specs.Tree.{Tree, Trees, no_more, more, Rescues, no_clause, clause}
+use Rattle.iseq_types.specs.declared.instructions.Instr.{Instr}
 use Rattle.iseq_types.specs.declared.instructions.Instr.TheVariants.{Dup, CheckMatch, BranchIf, Leave}
 use Rattle.code_meaning.specs.Code.{Shape, done, op, ahead, part, size}
 use Rattle.compile_table.specs.Shapes.{Where, shape, clauses_shape, clause_shape, classes_shape, bodies_shape, named}
 use Rattle.code_writer.specs.Writing.{Writing, grown}
 use Rattle.code_writer.proofs.Growing.{grown_length}
+use Rattle.emit_bodies.specs.Clauses.{clause_starts}
 
 -- ---- seams
 
@@ -79,3 +86,33 @@ clause_step l line h n total start far ts x t cs first old new place begins behi
     test (size (clauses_shape l cs line 0 done) + 1 + far) over
     ∙ ap (grown h (clause_shape l ts line (size (clauses_shape l cs line 0 done) + 1 + far) done)) is
     ∙ sym (clause_seam l line h (size (clauses_shape l cs line 0 done) + 1 + far) ts (clauses_shape l cs line m done) first)
+
+-- a clause with classes tests these
+pub clause_is : (l : Where) (line far : ℕ) (texts : Texts) (ns : List Node) → false ≡ (length ns == 0) → clause_shape l (read_all texts ns) line far done ≡ classes_shape l (read_all texts ns) line far done
+clause_is l line far texts [] none = absurd (cc)
+clause_is l line far texts (n ∷ ns) some = refl
+
+-- ---- where the bodies begin
+
+pub clause_place : (l : Where) (line h : ℕ) (ts : Trees) (x : Option Bytes) (t : Tree) (cs : Rescues) (places : List ℕ) (place : ℕ) (old new : Writing) → places ≡ reverse (clause_starts l line (length old.steps) cs) → new ≡ grown h (bodies_shape l (clause ts x t cs) line) old → place ≡ length new.steps → places ++ place ∷ [] ≡ reverse (clause_starts l line (length old.steps) (clause ts x t cs))
+clause_place l line h ts x t cs places place old new are is here =
+    let there : place ≡ size (bodies_shape l (clause ts x t cs) line) + length old.steps = here ∙ ap (λ (w : Writing). length w.steps) is ∙ grown_length h (bodies_shape l (clause ts x t cs) line) old in
+    ap (λ ns. ns ++ place ∷ []) are
+    ∙ ap (λ m. reverse (clause_starts l line (length old.steps) cs) ++ m ∷ []) there
+    ∙ sym (reverse_onto (clause_starts l line (length old.steps) cs) (size (bodies_shape l (clause ts x t cs) line) + length old.steps) [])
+
+pub starts_length : (l : Where) (line n : ℕ) (texts : Texts) (cs : List (Vec Node Global × Option Name × Node)) → length (clause_starts l line n (read_clauses texts cs)) ≡ length cs
+starts_length l line n texts [] = refl
+starts_length l line n texts (c ∷ cs) = ap suc (starts_length l line n texts cs)
+
+pub start_at : (l : Where) (line n : ℕ) (texts : Texts) (cs : List (Vec Node Global × Option Name × Node)) (i : ℕ) → i < length cs → get_or (clause_starts l line n (read_clauses texts cs)) i 0 ≡ size (bodies_shape l (read_clauses texts (drop i cs)) line) + n
+start_at l line n texts [] i within = absurd (omega (arith, within))
+start_at l line n texts (c ∷ cs) zero within = refl
+start_at l line n texts (c ∷ cs) (suc i) within = start_at l line n texts cs i (omega (arith, within))
+
+-- what follows the bodies
+pub throw_place : (l : Where) (line h : ℕ) (cs : Rescues) (i : Instr) (old new : Writing) → new ≡ grown h (op line i (bodies_shape l cs line)) old → length new.steps ≡ suc (size (bodies_shape l cs line) + length old.steps)
+throw_place l line h cs i old new is =
+    let counts = ap (λ (w : Writing). length w.steps) is in
+    let grows = grown_length h (op line i (bodies_shape l cs line)) old in
+    omega arith

@@ -31,7 +31,8 @@ pub(crate) fn rescue_sequence<'a, N: Nodes<'a>>(
 {
     let starts = bodies(emitter, below, line, clauses, out)?;
     out.code.write(line, Instr::Throw(0))?;
-    tests(emitter, below, line, clauses, &starts, out)
+    tests(emitter, below, line, clauses, &starts, out)?;
+    Ok(())
 }
 
 /// Writes the code of the bodies of clauses, and answers for each where it begins: how many

@@ -1,16 +1,16 @@
-use Rattle.std.proofs.Common.{rules, ◌≡◌, ℕ, ◌+◌, ◌++◌, length, reverse, OnOk, IfOk, ◌-◌, ◌*◌, ◌<◌, ◌≤◌, ◌/◌, ◌%◌, Bool, true, false, nat_eq, nat_lt, List, [], ◌∷◌, slice_index_or, slice_set, bit_and, bit_or, Fits, w8, w32, w64, Bor, MutBor}
-use Rattle.ruby_tree.specs.Tree.{Params, no_param, optional}
+use Rattle.std.proofs.Common.{◌≡◌, [], ◌∷◌, ◌++◌, reverse, subst, sym, ◌∙◌}
 use Rattle.ruby_tree.specs.Read.{tree_of, text_of_name}
-use Rattle.ruby_tree.specs.Views.{read_param, read_params}
-use Rattle.iseq_types.specs.declared.instructions.Instr.TheVariants.{Leave}
-use Rattle.code_meaning.specs.Code.{op, done, part, size}
-use Rattle.compile_table.specs.Shapes.{shape, params_shape}
-use Rattle.code_emitter.specs.Children.{direct, params_direct}
-use Rattle.code_emitter.specs.Emitting.{where_of, texts_of, written, children_of, Writes, Finds}
+use Rattle.ruby_tree.specs.Views.{read_param}
+use Rattle.code_emitter.specs.Emitting.{where_of, texts_of, written}
 use Rattle.emit_bodies.specs.Entries.{starts}
+use Rattle.emit_bodies.proofs.ParamSteps.{optional_place}
 use Rattle.emit_bodies.proofs.bodies.parameter.Goals as goal
 
--- src/bodies.rt:75:1
-pub returns-in_ok-push-in-Optional-clause-places :
-    goal.returns-in_ok-push-in-Optional-clause-places
-returns-in_ok-push-in-Optional-clause-places g c = ?
+pub returns-in_ok-push-in-Optional-clause-places : goal.returns-in_ok-push-in-Optional-clause-places
+returns-in_ok-push-in-Optional-clause-places g c = λ n ps are stands.
+    let emitter = c.args.emitter.now in
+    c.in_ok-push-in-Optional.ensures.items
+    ∙ subst
+    (λ p. c.args.places.now.items ++ c.len.result ∷ [] ≡ reverse (starts (where_of emitter) n (read_param (texts_of emitter) p ps)))
+    (sym c.in-Optional.is)
+    (optional_place (where_of emitter) emitter.depth n (text_of_name (texts_of emitter) c.in-Optional.name) (tree_of (texts_of emitter) c.in-Optional.tree) ps c.args.places.now.items c.len.result (written c.args.out.now) (written c.default.new.out) are stands c.in_ok-default-in-Optional.ensures.code c.len.ensures)

@@ -1,19 +1,28 @@
-use Rattle.std.proofs.Common.{rules, ◌≡◌, ℕ, suc, ◌+◌, ◌-◌, [], ◌∷◌, ◌++◌, length, OnOk, IfOk, codes, ◌*◌, ◌<◌, ◌≤◌, ◌/◌, ◌%◌, Bool, true, false, nat_eq, nat_lt, List, slice_index_or, slice_set, bit_and, bit_or, Fits, w8, w32, w64, Bor, MutBor}
-use Rattle.ruby_tree.specs.Tree.{no_more}
-use Rattle.ruby_tree.specs.Read.{tree_of, text_of_option}
-use Rattle.ruby_tree.specs.Views.{read_all, read_clauses}
-use Rattle.iseq_types.specs.declared.instructions.Instr.TheVariants.{Dup, CheckMatch, BranchIf, Leave, Throw}
-use Rattle.code_meaning.specs.Code.{op, ahead, done, part, size}
-use Rattle.compile_table.specs.Shapes.{shape, clauses_shape, clause_shape, classes_shape, bodies_shape, named}
-use Rattle.code_emitter.specs.Children.{direct, trees_direct, clauses_direct, classes_direct}
-use Rattle.code_emitter.specs.Emitting.{where_of, texts_of, written, children_of, Writes, Finds}
+use Rattle.std.proofs.Common.{◌≡◌, suc, ◌+◌, length, refl, ap, sym, ◌∙◌}
+use Rattle.ruby_tree.specs.Views.{read_clauses}
+use Rattle.iseq_types.specs.declared.instructions.Instr.TheVariants.{Throw}
+use Rattle.code_meaning.specs.Code.{op, done, at_line}
+use Rattle.compile_table.specs.Shapes.{clauses_shape, bodies_shape}
+use Rattle.code_writer.specs.Writing.{grown, wrote, plain}
+use Rattle.code_emitter.specs.Emitting.{where_of, texts_of, written}
 use Rattle.emit_bodies.specs.Clauses.{clause_starts}
+use Rattle.emit_bodies.proofs.ClauseSteps.{clauses_seam, starts_length, throw_place}
 use Rattle.emit_bodies.proofs.clauses.rescue_sequence.Goals as goal
 
--- src/clauses.rt:34:5
 pub tests-requires : goal.tests-requires
-tests-requires g c κs = ?
+tests-requires g c κs =
+    let e = c.args.emitter.now in
+    ((refl, tt), (c.requires,
+    ap length (c.deref.ensures.value ∙ c.in_ok-starts.ensures.starts) ∙ starts_length (where_of e) c.args.line (length (written c.args.out.now).steps) (texts_of e) c.args.clauses.now))
 
--- src/clauses.rt:21:1
 pub returns-clause-code : goal.returns-clause-code
-returns-clause-code g c = ?
+returns-clause-code g c =
+    let e = c.args.emitter.now in
+    let l = where_of e in
+    let line = c.args.line in
+    let old = written c.args.out.now in
+    let cs = read_clauses (texts_of e) c.args.clauses.now in
+    let behind : written record { code = c.write.new.self; children = c.bodies.new.out.children } ≡ grown e.depth (op line (Throw 0) (bodies_shape l cs line)) old = c.in_ok-write.ensures ∙ ap (wrote (plain (at_line line (Throw 0)))) c.in_ok-starts.ensures.code in
+    c.in_ok-tests.ensures.code (length old.steps) (c.deref.ensures.value ∙ c.in_ok-starts.ensures.starts) (throw_place l line e.depth cs (Throw 0) old _ behind)
+    ∙ ap (grown e.depth (clauses_shape l cs line 0 done)) behind
+    ∙ sym (clauses_seam l line e.depth 0 cs (op line (Throw 0) (bodies_shape l cs line)) old)
