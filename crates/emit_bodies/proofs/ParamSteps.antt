@@ -1,5 +1,5 @@
 -- Parameters that may be left out, and what stands behind them.
-use Rattle.std.proofs.Common.{◌≡◌, ℕ, suc, ◌+◌, Bool, List, [], ◌∷◌, ◌++◌, length, reverse, refl, ap, sym, ◌∙◌, arith}
+use Rattle.std.proofs.Common.{◌≡◌, ℕ, ◌+◌, Bool, List, [], ◌∷◌, ◌++◌, length, reverse, refl, ap, sym, ◌∙◌, arith}
 use Rattle.std.proofs.lemmas.List.{append-nil}
 use Rattle.std.proofs.lemmas.Grind.{reverse_onto}
 use Rattle.ruby_tree.specs.declared.node.Node.{Node}
@@ -13,7 +13,7 @@ use Rattle.compile_table.specs.Shapes.{Where, shape, params_shape, set_local}
 use Rattle.iseq_types.specs.declared.instructions.Instr.TheVariants.{Leave}
 use Rattle.code_writer.specs.Writing.{Writing, grown}
 use Rattle.code_writer.proofs.Growing.{grown_length}
-use Rattle.code_emitter.specs.Children.{Child, params_direct}
+use Rattle.code_emitter.specs.Children.{params_direct}
 use Rattle.emit_bodies.specs.Entries.{starts}
 
 pub params_seam : (l : Where) (h : ℕ) (ps : Params) (s : Shape) (w : Writing) → grown h (params_shape l ps s) w ≡ grown h (params_shape l ps done) (grown h s w)

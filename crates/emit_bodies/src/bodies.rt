@@ -62,13 +62,13 @@ fn optionals<'a, N: Nodes<'a>>(
     ensures children { OnOk result (Finds (texts_of emitter.now) (params_direct emitter.now.in_loop (read_params (texts_of emitter.now) params.now)) out.old out.new) }
     ensures starts { IfOk result (λ places. places.items ≡ starts (where_of emitter.now) (length (written out.old).steps) (read_params (texts_of emitter.now) params.now)) }
 {
-    let mut places = Vec::new(emitter.alloc);
-    places.push(out.code.len())?;
+    let mut starts = Vec::new(emitter.alloc);
+    starts.push(out.code.len())?;
     for i in (0..params.len()).rev() {
-        parameter(emitter, below, &params[i], &mut places, out)?;
+        parameter(emitter, below, &params[i], &mut starts, out)?;
     }
-    places.reverse();
-    Ok(places)
+    starts.reverse();
+    Ok(starts)
 }
 
 /// Writes the code of a parameter, where it may be left out, and notes that a body begins there.
@@ -87,7 +87,7 @@ fn parameter<'a, N: Nodes<'a>>(
     match param {
         Param::Required(_) => Ok(()),
         Param::Optional(name, tree) => {
-            default(emitter, below, *name, tree, out)?;
+            default_value(emitter, below, *name, tree, out)?;
             places.push(out.code.len())?;
             Ok(())
         }
@@ -97,7 +97,7 @@ fn parameter<'a, N: Nodes<'a>>(
 }
 
 /// Writes the code that gives a parameter what it is where no argument is given.
-fn default<'a, N: Nodes<'a>>(
+fn default_value<'a, N: Nodes<'a>>(
     emitter: &Emitter<'_, 'a>,
     below: &N,
     name: Name,

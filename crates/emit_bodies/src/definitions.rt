@@ -32,7 +32,9 @@ pub fn definition<'a, N: Nodes<'a>>(
 {
     let line = emitter.own(at);
     match definition {
-        Definition::Method(name, tree, on_self) => method(emitter, line, *name, tree, *on_self, out),
+        Definition::Method(name, tree, on_self) => method(
+            emitter, line, *name, tree, *on_self, out,
+        ),
         Definition::Class(superclass, name, tree) => {
             class(emitter, below, at, superclass, *name, tree, out)
         }
@@ -105,22 +107,21 @@ fn subclass<'a, N: Nodes<'a>>(
     below.node(emitter, 0, superclass, out)
 }
 
-/// Writes the code of a class without a superclass, or of a module, as the number says.
+/// Writes the code of a class without a superclass, which opens by 0, or of a module, by 2.
 fn opened<'a>(
     emitter: &Emitter<'_, 'a>,
     line: u64,
-    number: u64,
+    by: u64,
     name: Name,
     tree: &'a Node,
     out: &mut Output<'a>,
 ) -> Result<(), NoMemory>
-    ensures code { OnOk result (Writes emitter.now.depth (op line PutNil (op line (DefineClass (text_of_name (texts_of emitter.now) name) (suc (number_of (where_of emitter.now) (tree_of (texts_of emitter.now) tree.now))) number) done)) out.old out.new) }
+    ensures code { OnOk result (Writes emitter.now.depth (op line PutNil (op line (DefineClass (text_of_name (texts_of emitter.now) name) (suc (number_of (where_of emitter.now) (tree_of (texts_of emitter.now) tree.now))) by) done)) out.old out.new) }
     ensures children { OnOk result (Finds (texts_of emitter.now) (child kinds.Class (text_of_name (texts_of emitter.now) name) emitter.now.in_loop (tree_of (texts_of emitter.now) tree.now) ∷ []) out.old out.new) }
 {
     let seq = found(emitter, SeqKind::Class, name, tree, out)?;
     let text = emitter.text(name)?;
-    out.code
-        .write(line, Instr::DefineClass(text, seq, number))?;
+    out.code.write(line, Instr::DefineClass(text, seq, by))?;
     out.code.write(line, Instr::PutNil)
 }
 

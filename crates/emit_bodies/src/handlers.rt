@@ -59,7 +59,14 @@ fn rescued<'a, N: Nodes<'a>>(
 {
     let go_on = out.code.len();
     behind_else(emitter, below, line, last, out)?;
-    let row = end_row(emitter, CatchKind::Rescue, SeqKind::Rescue, go_on, clauses, out)?;
+    let row = end_row(
+        emitter,
+        CatchKind::Rescue,
+        SeqKind::Rescue,
+        go_on,
+        clauses,
+        out,
+    )?;
     below.node(emitter, 0, tree, out)?;
     out.code.begin_row(row);
     Ok(())
@@ -100,7 +107,14 @@ fn ensured<'a, N: Nodes<'a>>(
     ensures children { OnOk result (Finds (texts_of emitter.now) (child kinds.Ensure [] emitter.now.in_loop (tree_of (texts_of emitter.now) ensure_part.now) ∷ direct emitter.now.in_loop (tree_of (texts_of emitter.now) tree.now)) out.old out.new) }
 {
     let go_on = out.code.len();
-    let row = end_row(emitter, CatchKind::Ensure, SeqKind::Ensure, go_on, ensure_part, out)?;
+    let row = end_row(
+        emitter,
+        CatchKind::Ensure,
+        SeqKind::Ensure,
+        go_on,
+        ensure_part,
+        out,
+    )?;
     out.code.write(line, Instr::Throw(6))?;
     below.node(emitter, 0, tree, out)?;
     out.code.begin_row(row);

@@ -25,20 +25,20 @@ loop-i-preserved g c =
     let is = sym (turn c.args.params.now c.loop-i.i p (omega arith) c.loop-i.auto.i c.index-params-i.is) in
     record {
       code = subst
-        (λ ns. Writes e.depth (params_shape l (read_params texts ns) done) old new)
-        is
-        (c.in_ok-parameter.ensures.code
-        ∙ ap (grown e.depth (params_shape l (read_param texts p no_param) done)) c.loop-i.invariant.code
-        ∙ sym (param_before l e.depth texts p ps (written old)));
+          (λ ns. Writes e.depth (params_shape l (read_params texts ns) done) old new)
+          is
+          (c.in_ok-parameter.ensures.code
+          ∙ ap (grown e.depth (params_shape l (read_param texts p no_param) done)) c.loop-i.invariant.code
+          ∙ sym (param_before l e.depth texts p ps (written old)));
       children = subst
-        (λ ns. Finds texts (params_direct e.in_loop (read_params texts ns)) old new)
-        is
-        (found_behind (children_of texts old) (children_of texts c.loop-i.out) (children_of texts new) (params_direct e.in_loop ps) (params_direct e.in_loop (read_param texts p no_param)) c.loop-i.invariant.children c.in_ok-parameter.ensures.children
-        ∙ ap (λ cs. children_of texts old ++ cs) (param_children e.in_loop texts p ps));
+          (λ ns. Finds texts (params_direct e.in_loop (read_params texts ns)) old new)
+          is
+          (found_behind (children_of texts old) (children_of texts c.loop-i.out) (children_of texts new) (params_direct e.in_loop ps) (params_direct e.in_loop (read_param texts p no_param)) c.loop-i.invariant.children c.in_ok-parameter.ensures.children
+          ∙ ap (λ cs. children_of texts old ++ cs) (param_children e.in_loop texts p ps));
       starts = subst
-        (λ ns. c.parameter.new.places.items ≡ reverse (starts l (length (written old).steps) (read_params texts ns)))
-        is
-        (c.in_ok-parameter.ensures.places (length (written old).steps) ps c.loop-i.invariant.starts (ap (λ (w : Writing). length w.steps) c.loop-i.invariant.code ∙ grown_length e.depth (params_shape l ps done) (written old)));
+          (λ ns. c.parameter.new.places.items ≡ reverse (starts l (length (written old).steps) (read_params texts ns)))
+          is
+          (c.in_ok-parameter.ensures.places (length (written old).steps) ps c.loop-i.invariant.starts (ap (λ (w : Writing). length w.steps) c.loop-i.invariant.code ∙ grown_length e.depth (params_shape l ps done) (written old)));
     }
 
 pub returns-clause-code : goal.returns-clause-code

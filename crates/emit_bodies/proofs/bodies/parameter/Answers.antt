@@ -13,4 +13,4 @@ returns-in_ok-push-in-Optional-clause-places g c = λ n ps are stands.
     ∙ subst
     (λ p. c.args.places.now.items ++ c.len.result ∷ [] ≡ reverse (starts (where_of emitter) n (read_param (texts_of emitter) p ps)))
     (sym c.in-Optional.is)
-    (optional_place (where_of emitter) emitter.depth n (text_of_name (texts_of emitter) c.in-Optional.name) (tree_of (texts_of emitter) c.in-Optional.tree) ps c.args.places.now.items c.len.result (written c.args.out.now) (written c.default.new.out) are stands c.in_ok-default-in-Optional.ensures.code c.len.ensures)
+    (optional_place (where_of emitter) emitter.depth n (text_of_name (texts_of emitter) c.in-Optional.name) (tree_of (texts_of emitter) c.in-Optional.tree) ps c.args.places.now.items c.len.result (written c.args.out.now) (written c.default_value.new.out) are stands c.in_ok-default_value-in-Optional.ensures.code c.len.ensures)

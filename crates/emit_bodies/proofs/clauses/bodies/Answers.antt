@@ -28,19 +28,19 @@ loop-i-preserved g c =
     let cs = read_clauses texts (drop c.loop-i.i c.args.clauses.now) in
     let is = sym (turn c.args.clauses.now c.loop-i.i r (omega arith) c.loop-i.auto.i c.index-clauses-i.is) in
     let code : Writes e.depth (bodies_shape l (read_clauses texts (r ∷ drop c.loop-i.i c.args.clauses.now)) line) old new =
-        c.in_ok-body.ensures.code
-        ∙ ap (grown e.depth (named l line x (part 0 (shape l t) (op line Leave done)))) c.loop-i.invariant.code
-        ∙ sym (bodies_before l line e.depth ts x t cs (written old)) in
+    c.in_ok-body.ensures.code
+    ∙ ap (grown e.depth (named l line x (part 0 (shape l t) (op line Leave done)))) c.loop-i.invariant.code
+    ∙ sym (bodies_before l line e.depth ts x t cs (written old)) in
     record {
       code = subst (λ ns. Writes e.depth (bodies_shape l (read_clauses texts ns) line) old new) is code;
       children = subst
-        (λ ns. Finds texts (clauses_direct e.in_loop (read_clauses texts ns)) old new)
-        is
-        (found_behind (children_of texts old) (children_of texts c.loop-i.out) (children_of texts new) (clauses_direct e.in_loop cs) (direct e.in_loop t) c.loop-i.invariant.children c.in_ok-body.ensures.children);
+          (λ ns. Finds texts (clauses_direct e.in_loop (read_clauses texts ns)) old new)
+          is
+          (found_behind (children_of texts old) (children_of texts c.loop-i.out) (children_of texts new) (clauses_direct e.in_loop cs) (direct e.in_loop t) c.loop-i.invariant.children c.in_ok-body.ensures.children);
       starts = subst
-        (λ ns. c.push.new.self.items ≡ reverse (clause_starts l line (length (written old).steps) (read_clauses texts ns)))
-        is
-        (c.in_ok-push.ensures.items ∙ clause_place l line e.depth ts x t cs c.loop-i.starts.items c.len.result (written old) (written new) c.loop-i.invariant.starts code c.len.ensures);
+          (λ ns. c.push.new.self.items ≡ reverse (clause_starts l line (length (written old).steps) (read_clauses texts ns)))
+          is
+          (c.in_ok-push.ensures.items ∙ clause_place l line e.depth ts x t cs c.loop-i.starts.items c.len.result (written old) (written new) c.loop-i.invariant.starts code c.len.ensures);
     }
 
 pub returns-clause-code : goal.returns-clause-code

@@ -1,4 +1,4 @@
-use Rattle.std.proofs.Common.{◌≡◌, ◌+◌, length, drop, reverse}
+use Rattle.std.proofs.Common.{◌≡◌, length, drop, reverse}
 use Rattle.ruby_tree.specs.Views.{read_clauses}
 use Rattle.compile_table.specs.Shapes.{bodies_shape}
 use Rattle.code_emitter.specs.Children.{clauses_direct}

@@ -23,13 +23,13 @@ loop-i-preserved g c =
     let is = sym (turn c.args.trees.now c.loop-i.i n (omega arith) c.loop-i.auto.i c.index-trees-i.is) in
     record {
       code = subst
-        (λ ns. (far : ℕ) → length (written old).steps ≡ far + c.args.start → Writes e.depth (classes_shape l (read_all texts ns) line far done) old new)
-        is
-        (λ far place. class_step l line e.depth c.args.start far (tree_of texts n) ts (written old) (written c.loop-i.out) (written new) place (c.loop-i.invariant.code far place) c.in_ok-class.ensures.code);
+          (λ ns. (far : ℕ) → length (written old).steps ≡ far + c.args.start → Writes e.depth (classes_shape l (read_all texts ns) line far done) old new)
+          is
+          (λ far place. class_step l line e.depth c.args.start far (tree_of texts n) ts (written old) (written c.loop-i.out) (written new) place (c.loop-i.invariant.code far place) c.in_ok-class.ensures.code);
       children = subst
-        (λ ns. Finds texts (trees_direct e.in_loop (read_all texts ns)) old new)
-        is
-        (found_behind (children_of texts old) (children_of texts c.loop-i.out) (children_of texts new) (trees_direct e.in_loop ts) (direct e.in_loop (tree_of texts n)) c.loop-i.invariant.children c.in_ok-class.ensures.children);
+          (λ ns. Finds texts (trees_direct e.in_loop (read_all texts ns)) old new)
+          is
+          (found_behind (children_of texts old) (children_of texts c.loop-i.out) (children_of texts new) (trees_direct e.in_loop ts) (direct e.in_loop (tree_of texts n)) c.loop-i.invariant.children c.in_ok-class.ensures.children);
     }
 
 pub returns-clause-children : goal.returns-clause-children

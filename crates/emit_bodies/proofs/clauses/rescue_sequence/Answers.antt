@@ -1,19 +1,22 @@
-use Rattle.std.proofs.Common.{◌≡◌, suc, ◌+◌, length, refl, ap, sym, ◌∙◌}
+use Rattle.std.proofs.Common.{◌≡◌, length, refl, ap, sym, ◌∙◌}
 use Rattle.ruby_tree.specs.Views.{read_clauses}
 use Rattle.iseq_types.specs.declared.instructions.Instr.TheVariants.{Throw}
 use Rattle.code_meaning.specs.Code.{op, done, at_line}
 use Rattle.compile_table.specs.Shapes.{clauses_shape, bodies_shape}
 use Rattle.code_writer.specs.Writing.{grown, wrote, plain}
 use Rattle.code_emitter.specs.Emitting.{where_of, texts_of, written}
-use Rattle.emit_bodies.specs.Clauses.{clause_starts}
 use Rattle.emit_bodies.proofs.ClauseSteps.{clauses_seam, starts_length, throw_place}
 use Rattle.emit_bodies.proofs.clauses.rescue_sequence.Goals as goal
 
 pub tests-requires : goal.tests-requires
 tests-requires g c κs =
-    let e = c.args.emitter.now in
-    ((refl, tt), (c.requires,
-    ap length (c.deref.ensures.value ∙ c.in_ok-starts.ensures.starts) ∙ starts_length (where_of e) c.args.line (length (written c.args.out.now).steps) (texts_of e) c.args.clauses.now))
+    let e = c.args.emitter.now in (
+      (refl, tt),
+      (
+        c.requires,
+        ap length (c.deref.ensures.value ∙ c.in_ok-starts.ensures.starts) ∙ starts_length (where_of e) c.args.line (length (written c.args.out.now).steps) (texts_of e) c.args.clauses.now,
+      ),
+    )
 
 pub returns-clause-code : goal.returns-clause-code
 returns-clause-code g c =

@@ -1,4 +1,4 @@
-use Rattle.std.proofs.Common.{◌≡◌, ℕ, ◌+◌, ◌-◌, ◌∷◌, length, drop, get_or, Option, Vec, ap, subst, sym, ◌∙◌, arith}
+use Rattle.std.proofs.Common.{◌≡◌, ℕ, ◌+◌, ◌-◌, ◌∷◌, drop, get_or, Option, Vec, ap, subst, sym, ◌∙◌, arith}
 use Rattle.std.specs.declared.alloc.Global.{Global}
 use Rattle.ruby_tree.specs.declared.names.Name.{Name}
 use Rattle.ruby_tree.specs.declared.node.Node.{Node}
@@ -36,19 +36,19 @@ loop-i-preserved g c =
     let trees : c.deref.result.now ≡ r.0.items = c.deref.ensures.value ∙ ap (λ (p : Vec Node Global × Option Name × Node). p.0.items) (sym c.index-clauses-i.is) in
     record {
       code = λ n are place. subst
-        (λ ns. (far : ℕ) → far + size (bodies_shape l (read_clauses texts ns) line) ≡ total → Writes e.depth (clauses_shape l (read_clauses texts ns) line far done) old new)
-        (sym is)
-        (λ far here.
-        clause_step l line e.depth n total start far ts x t cs (written old) (written mid) (written new) place
-        (ap (λ ns. get_or ns (i - 1) 0) are ∙ start_at l line n texts clauses (i - 1) (omega arith) ∙ ap (λ ns. size (bodies_shape l (read_clauses texts ns) line) + n) is)
-        (c.loop-i.invariant.code n are place)
-        (λ m far_is. subst (λ ns. Writes e.depth (clause_shape l (read_all texts ns) line m done) mid new) trees (c.in_ok-test.ensures.code m far_is))
-        here);
+          (λ ns. (far : ℕ) → far + size (bodies_shape l (read_clauses texts ns) line) ≡ total → Writes e.depth (clauses_shape l (read_clauses texts ns) line far done) old new)
+          (sym is)
+          (λ far here.
+          clause_step l line e.depth n total start far ts x t cs (written old) (written mid) (written new) place
+          (ap (λ ns. get_or ns (i - 1) 0) are ∙ start_at l line n texts clauses (i - 1) (omega arith) ∙ ap (λ ns. size (bodies_shape l (read_clauses texts ns) line) + n) is)
+          (c.loop-i.invariant.code n are place)
+          (λ m far_is. subst (λ ns. Writes e.depth (clause_shape l (read_all texts ns) line m done) mid new) trees (c.in_ok-test.ensures.code m far_is))
+          here);
       children = subst
-        (λ ns. Finds texts (classes_direct e.in_loop (read_clauses texts ns)) old new)
-        (sym is)
-        (found_behind (children_of texts old) (children_of texts mid) (children_of texts new) (classes_direct e.in_loop cs) (trees_direct e.in_loop ts) c.loop-i.invariant.children
-        (subst (λ ns. Finds texts (trees_direct e.in_loop (read_all texts ns)) mid new) trees c.in_ok-test.ensures.children));
+          (λ ns. Finds texts (classes_direct e.in_loop (read_clauses texts ns)) old new)
+          (sym is)
+          (found_behind (children_of texts old) (children_of texts mid) (children_of texts new) (classes_direct e.in_loop cs) (trees_direct e.in_loop ts) c.loop-i.invariant.children
+          (subst (λ ns. Finds texts (trees_direct e.in_loop (read_all texts ns)) mid new) trees c.in_ok-test.ensures.children));
     }
 
 pub returns-clause-children : goal.returns-clause-children
