@@ -6,7 +6,7 @@ use Rattle.code_meaning.specs.Code.{Shape, done, op, part, size, finish}
 use Rattle.code_meaning.proofs.Sizes.{finish_size}
 use Rattle.compile_table.specs.Shapes.{Where, shape, params_shape}
 use Rattle.compile_table.specs.Sequences.{entries_from}
-use Rattle.yarv_compile.specs.Entries.{starts}
+use Rattle.emit_bodies.specs.Entries.{starts}
 
 pub starts_are_entries : (l : Where) (n total p : ℕ) (ps : Params) → p + (size (params_shape l ps done) + n) ≡ total → map (λ q. total - q) (starts l n ps) ≡ entries_from l p ps
 starts_are_entries l n total p no_param e = let f : total - n ≡ p = omega arith in ap (λ x. x ∷ []) f

@@ -7,7 +7,7 @@ ghost use Rattle.code_meaning.specs.Code.{done, size};
 ghost use Rattle.compile_table.specs.Shapes.{Where, looped, in_rescue, in_ensure, shape, form_shape, params_shape};
 ghost use Rattle.compile_table.specs.Sequences.{in_body, in_block, entries_from, entries_of, body_sequence, part_sequence};
 ghost use Rattle.yarv_compile.specs.Alike.{Alike};
-ghost use Rattle.yarv_compile.specs.Entries.{starts};
+ghost use Rattle.emit_bodies.specs.Entries.{starts};
 
 /// A tree has the same code in places that are alike, a body begins at the same instructions there,
 /// and the sequence of a body or of a part is the same.

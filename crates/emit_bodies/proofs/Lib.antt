@@ -1,0 +1,4 @@
+pub mod ClauseSteps
+pub mod CountingDown
+pub mod HandlerSteps
+pub mod ParamSteps
