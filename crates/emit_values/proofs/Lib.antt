@@ -1,1 +1,2 @@
+pub mod Childless
 pub mod Seams

@@ -80,7 +80,6 @@ fn pieces<'a, N: Nodes<'a>>(
 }
 
 /// Writes the code of a part of a text, which stands so much deeper on the stack.
-#[tactic(auto, using(std::proofs::lemmas::List::append_nil))]
 fn piece<'a, N: Nodes<'a>>(
     emitter: &Emitter<'_, 'a>,
     below: &N,

@@ -1,7 +1,6 @@
 //! Literals and variables.
 ghost use Rattle.std.specs.Prelude.{◌≡◌, OnOk, IfOk, pos};
 ghost use Rattle.ruby_tree.specs.SourcePositions.{position_of};
-ghost use Rattle.ruby_tree.specs.Tree.{SourcePosition};
 ghost use Rattle.ruby_tree.specs.Read.{literal_form, variable_form};
 ghost use Rattle.code_meaning.specs.Code.{op, done};
 ghost use Rattle.compile_table.specs.Shapes.{own, form_shape};
@@ -79,7 +78,7 @@ pub fn variable<'a>(
 
 /// The instruction that reads a variable.
 fn read(emitter: &Emitter<'_, '_>, variable: &Variable) -> Result<Instr, NoMemory>
-    ensures { (at : SourcePosition) → IfOk result (λ instr. form_shape (where_of emitter.now) (variable_form (texts_of emitter.now) variable.now) at ≡ op (own (where_of emitter.now) at) instr done) }
+    ensures { (at : _) → IfOk result (λ instr. form_shape (where_of emitter.now) (variable_form (texts_of emitter.now) variable.now) at ≡ op (own (where_of emitter.now) at) instr done) }
 {
     Ok(match variable {
         Variable::Local(name) => emitter.get_local(*name),
