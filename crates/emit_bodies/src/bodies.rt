@@ -7,7 +7,7 @@ ghost use Rattle.iseq_types.specs.declared.instructions.Instr.TheVariants.{Leave
 ghost use Rattle.code_meaning.specs.Code.{op, done, part, size};
 ghost use Rattle.compile_table.specs.Shapes.{shape, params_shape};
 ghost use Rattle.code_emitter.specs.Children.{direct, params_direct};
-ghost use Rattle.code_emitter.specs.Emitting.{where_of, texts_of, written, children_of, Writes, Finds};
+ghost use Rattle.code_emitter.specs.Emitting.{where_of, texts_of, written, Writes, Finds};
 ghost use Rattle.emit_bodies.specs.Entries.{starts};
 
 use bs_outside::NoMemory;

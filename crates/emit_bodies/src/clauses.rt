@@ -7,7 +7,7 @@ ghost use Rattle.iseq_types.specs.declared.instructions.Instr.TheVariants.{Dup, 
 ghost use Rattle.code_meaning.specs.Code.{op, ahead, done, part, size};
 ghost use Rattle.compile_table.specs.Shapes.{shape, clauses_shape, clause_shape, classes_shape, bodies_shape, named};
 ghost use Rattle.code_emitter.specs.Children.{direct, trees_direct, clauses_direct, classes_direct};
-ghost use Rattle.code_emitter.specs.Emitting.{where_of, texts_of, written, children_of, Writes, Finds};
+ghost use Rattle.code_emitter.specs.Emitting.{where_of, texts_of, written, Writes, Finds};
 ghost use Rattle.emit_bodies.specs.Clauses.{clause_starts};
 
 use bs_outside::{Items, NoMemory, Text, Texts};

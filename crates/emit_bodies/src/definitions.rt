@@ -10,7 +10,7 @@ ghost use Rattle.iseq_types.specs.declared.sequences.SeqKind.TheVariants as kind
 ghost use Rattle.code_meaning.specs.Code.{op, done, part};
 ghost use Rattle.compile_table.specs.Shapes.{form_shape, shape, number_of, on_self};
 ghost use Rattle.code_emitter.specs.Children.{form_direct, direct, child};
-ghost use Rattle.code_emitter.specs.Emitting.{where_of, texts_of, written, children_of, Writes, Finds};
+ghost use Rattle.code_emitter.specs.Emitting.{where_of, texts_of, written, Writes, Finds};
 
 use crate::bodies::definition_body;
 use bs_outside::NoMemory;

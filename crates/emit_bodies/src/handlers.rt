@@ -10,7 +10,7 @@ ghost use Rattle.code_meaning.specs.Code.{op, done, part, held, size};
 ghost use Rattle.code_writer.specs.Writing.{row_opened};
 ghost use Rattle.compile_table.specs.Shapes.{form_shape, shape, last_shape, number_of};
 ghost use Rattle.code_emitter.specs.Children.{form_direct, other_direct, direct, child};
-ghost use Rattle.code_emitter.specs.Emitting.{where_of, texts_of, written, children_of, Writes, Finds};
+ghost use Rattle.code_emitter.specs.Emitting.{where_of, texts_of, written, Writes, Finds};
 
 use crate::clauses::rescue_sequence;
 use bs_outside::NoMemory;
