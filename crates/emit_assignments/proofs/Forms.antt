@@ -19,6 +19,6 @@ pub stores_old : (h line call depth : ℕ) (x : Bytes) (n flags : ℕ) (branch :
 stores_old h line call depth x n flags branch v w a b y len stored is two grows branches dups =
     dups
     ∙ ap (wrote (plain (at_line line Dup)))
-      (branches
-      ∙ ap (λ u. wrote (on line branch (length u.steps - stored)) u) grows
-      ∙ ap (λ m. wrote (on line branch m) (grown h (new_set line call depth x n flags v) w)) (branches_to_old h line call depth x n flags branch v w len stored is two))
+    (branches
+    ∙ ap (λ u. wrote (on line branch (length u.steps - stored)) u) grows
+    ∙ ap (λ m. wrote (on line branch m) (grown h (new_set line call depth x n flags v) w)) (branches_to_old h line call depth x n flags branch v w len stored is two))

@@ -52,16 +52,7 @@ pub fn assignment<'a, N: Nodes<'a>>(
                 receiver,
                 name: *read,
             };
-            set_attribute_unless(
-                emitter,
-                below,
-                at,
-                Branch::If,
-                attribute,
-                value,
-                *name,
-                out,
-            )
+            set_attribute_unless(emitter, below, at, Branch::If, attribute, value, *name, out)
         }
         Assignment::AttributeAnd(receiver, read, value, name) => {
             let attribute = Attribute {
@@ -81,9 +72,7 @@ pub fn assignment<'a, N: Nodes<'a>>(
         }
         Assignment::IndexOperator(receiver, index, value, operator, line) => {
             let element = Element { receiver, index };
-            operate_element(
-                emitter, below, at, element, value, *operator, *line, out,
-            )
+            operate_element(emitter, below, at, element, value, *operator, *line, out)
         }
         Assignment::IndexOr(receiver, index, value) => {
             let element = Element { receiver, index };

@@ -1,5 +1,5 @@
 -- A call, and what is written for it from its arguments on.
-use Rattle.std.specs.Prelude.{ℕ, suc, List}
+use Rattle.std.specs.Prelude.{ℕ, suc}
 use Rattle.ruby_tree.specs.Tree.{Trees, Other}
 use Rattle.iseq_types.specs.declared.instructions.Instr.{Instr}
 use Rattle.iseq_types.specs.declared.instructions.Instr.TheVariants.{Send, InvokeSuper}

@@ -68,9 +68,7 @@ fn with_block<'a>(
     ensures children { OnOk result (Finds (texts_of emitter.now) (child kinds.Block [] emitter.now.in_loop (tree_of (texts_of emitter.now) tree.now) ∷ []) out.old out.new) }
 {
     let end = out.code.len();
-    let row = out
-        .code
-        .end_row(CatchKind::Break, end, 0, emitter.depth)?;
+    let row = out.code.end_row(CatchKind::Break, end, 0, emitter.depth)?;
     out.note(Child {
         kind: SeqKind::Block,
         name: None,
