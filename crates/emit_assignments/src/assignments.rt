@@ -39,36 +39,16 @@ pub fn assignment<'a, N: Nodes<'a>>(
             set_element(emitter, below, at, element, value, out)
         }
         Assignment::AttributeOperator(receiver, read, value, operator, name, line) => {
-            let attribute = Attribute {
-                receiver,
-                name: *read,
-            };
-            operate_attribute(
-                emitter, below, at, attribute, value, *operator, *line, *name, out,
-            )
+            let attribute = Attribute::new(receiver, *read, *name);
+            operate_attribute(emitter, below, at, attribute, value, *operator, *line, out)
         }
         Assignment::AttributeOr(receiver, read, value, name) => {
-            let attribute = Attribute {
-                receiver,
-                name: *read,
-            };
-            set_attribute_unless(emitter, below, at, Branch::If, attribute, value, *name, out)
+            let attribute = Attribute::new(receiver, *read, *name);
+            set_attribute_unless(emitter, below, at, Branch::If, attribute, value, out)
         }
         Assignment::AttributeAnd(receiver, read, value, name) => {
-            let attribute = Attribute {
-                receiver,
-                name: *read,
-            };
-            set_attribute_unless(
-                emitter,
-                below,
-                at,
-                Branch::Unless,
-                attribute,
-                value,
-                *name,
-                out,
-            )
+            let attribute = Attribute::new(receiver, *read, *name);
+            set_attribute_unless(emitter, below, at, Branch::Unless, attribute, value, out)
         }
         Assignment::IndexOperator(receiver, index, value, operator, line) => {
             let element = Element { receiver, index };

@@ -16,11 +16,29 @@ use code_writer::Branch;
 use iseq_types::Instr;
 use ruby_tree::{Name, Node, SourcePosition};
 
-/// An attribute of a value: the receiver, and the name by which it is read.
+/// An attribute of a value, which is read before it is set.
 #[derive(Clone, Copy, Drop)]
 pub(crate) struct Attribute<'a> {
-    pub(crate) receiver: &'a Node,
-    pub(crate) name: Name,
+    receiver: &'a Node,
+    /// The name of the method that reads it.
+    read: Name,
+    /// The name of the method that sets it.
+    set: Name,
+}
+
+impl<'a> Attribute<'a> {
+    /// The attribute of the receiver that these methods read and set.
+    pub(crate) fn new(receiver: &'a Node, read: Name, set: Name) -> Attribute<'a>
+        ensures receiver { result.receiver.now ≡ receiver.now }
+        ensures read { result.read ≡ read }
+        ensures set { result.set ≡ set }
+    {
+        Attribute {
+            receiver,
+            read,
+            set,
+        }
+    }
 }
 
 /// The call that sets an attribute.
@@ -73,10 +91,10 @@ fn read_attribute<'a, N: Nodes<'a>>(
     out: &mut Output<'a>,
 ) -> Result<(), NoMemory>
     requires { N.IsReady below.now }
-    ensures code { OnOk result (Writes emitter.now.depth (attribute_read (start (where_of emitter.now) (position_of at)) (own (where_of emitter.now) (position_of at)) (text_of_name (texts_of emitter.now) attribute.entry.name) (self_flag (tree_of (texts_of emitter.now) attribute.entry.receiver.now)) (shape (where_of emitter.now) (tree_of (texts_of emitter.now) attribute.entry.receiver.now)) done) out.old out.new) }
+    ensures code { OnOk result (Writes emitter.now.depth (attribute_read (start (where_of emitter.now) (position_of at)) (own (where_of emitter.now) (position_of at)) (text_of_name (texts_of emitter.now) attribute.entry.read) (self_flag (tree_of (texts_of emitter.now) attribute.entry.receiver.now)) (shape (where_of emitter.now) (tree_of (texts_of emitter.now) attribute.entry.receiver.now)) done) out.old out.new) }
     ensures children { OnOk result (Finds (texts_of emitter.now) (direct emitter.now.in_loop (tree_of (texts_of emitter.now) attribute.entry.receiver.now)) out.old out.new) }
 {
-    let name = emitter.text(attribute.name)?;
+    let name = emitter.text(attribute.read)?;
     let flags = self_flag(attribute.receiver);
     let line = emitter.start(at);
     plain_send(emitter, emitter.own(at), name, 0, flags, out)?;
@@ -94,14 +112,13 @@ pub(crate) fn set_attribute_unless<'a, N: Nodes<'a>>(
     branch: Branch,
     attribute: Attribute<'a>,
     value: &'a Node,
-    name: Name,
     out: &mut Output<'a>,
 ) -> Result<(), NoMemory>
     requires { N.IsReady below.now }
-    ensures code { OnOk result (Writes emitter.now.depth (attribute_read (start (where_of emitter.now) (position_of at)) (own (where_of emitter.now) (position_of at)) (text_of_name (texts_of emitter.now) attribute.entry.name) (self_flag (tree_of (texts_of emitter.now) attribute.entry.receiver.now)) (shape (where_of emitter.now) (tree_of (texts_of emitter.now) attribute.entry.receiver.now)) (or_set (start (where_of emitter.now) (position_of at)) (own (where_of emitter.now) (position_of at)) (branch_of branch) 2 (text_of_name (texts_of emitter.now) name) 1 (self_flag (tree_of (texts_of emitter.now) attribute.entry.receiver.now)) (shape (where_of emitter.now) (tree_of (texts_of emitter.now) value.now)))) out.old out.new) }
+    ensures code { OnOk result (Writes emitter.now.depth (attribute_read (start (where_of emitter.now) (position_of at)) (own (where_of emitter.now) (position_of at)) (text_of_name (texts_of emitter.now) attribute.entry.read) (self_flag (tree_of (texts_of emitter.now) attribute.entry.receiver.now)) (shape (where_of emitter.now) (tree_of (texts_of emitter.now) attribute.entry.receiver.now)) (or_set (start (where_of emitter.now) (position_of at)) (own (where_of emitter.now) (position_of at)) (branch_of branch) 2 (text_of_name (texts_of emitter.now) attribute.entry.set) 1 (self_flag (tree_of (texts_of emitter.now) attribute.entry.receiver.now)) (shape (where_of emitter.now) (tree_of (texts_of emitter.now) value.now)))) out.old out.new) }
     ensures children { OnOk result (Finds (texts_of emitter.now) (direct emitter.now.in_loop (tree_of (texts_of emitter.now) value.now) ++ direct emitter.now.in_loop (tree_of (texts_of emitter.now) attribute.entry.receiver.now)) out.old out.new) }
 {
-    let setter = setter(emitter, at, attribute.receiver, name)?;
+    let setter = setter(emitter, at, attribute.receiver, attribute.set)?;
     set_unless(emitter, below, setter, branch, value, out)?;
     read_attribute(emitter, below, at, attribute, out)?;
     Ok(())
@@ -116,14 +133,13 @@ pub(crate) fn operate_attribute<'a, N: Nodes<'a>>(
     value: &'a Node,
     operator: Name,
     line: u64,
-    name: Name,
     out: &mut Output<'a>,
 ) -> Result<(), NoMemory>
     requires { N.IsReady below.now }
-    ensures code { OnOk result (Writes emitter.now.depth (form_shape (where_of emitter.now) (operate_attribute (tree_of (texts_of emitter.now) attribute.entry.receiver.now) (text_of_name (texts_of emitter.now) attribute.entry.name) (tree_of (texts_of emitter.now) value.now) (text_of_name (texts_of emitter.now) operator) (text_of_name (texts_of emitter.now) name) line) (position_of at)) out.old out.new) }
+    ensures code { OnOk result (Writes emitter.now.depth (form_shape (where_of emitter.now) (operate_attribute (tree_of (texts_of emitter.now) attribute.entry.receiver.now) (text_of_name (texts_of emitter.now) attribute.entry.read) (tree_of (texts_of emitter.now) value.now) (text_of_name (texts_of emitter.now) operator) (text_of_name (texts_of emitter.now) attribute.entry.set) line) (position_of at)) out.old out.new) }
     ensures children { OnOk result (Finds (texts_of emitter.now) (direct emitter.now.in_loop (tree_of (texts_of emitter.now) value.now) ++ direct emitter.now.in_loop (tree_of (texts_of emitter.now) attribute.entry.receiver.now)) out.old out.new) }
 {
-    let setter = setter(emitter, at, attribute.receiver, name)?;
+    let setter = setter(emitter, at, attribute.receiver, attribute.set)?;
     operate_and_set(emitter, setter, emitter.line(line), operator, out)?;
     below.node(emitter, 3, value, out)?;
     read_attribute(emitter, below, at, attribute, out)?;
