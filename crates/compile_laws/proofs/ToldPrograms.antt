@@ -15,7 +15,7 @@ use Rattle.ruby_meaning.specs.Sequences.{places, sequence_number}
 use Rattle.ruby_meaning.specs.Files.{Files, RubyFile, no_ruby, ruby_fault, ruby_tree}
 use Rattle.ruby_meaning.specs.Levels.{Scopes, Sight, file_sight, body_sight, block_sight, BodyTable, IsHoused}
 use Rattle.ruby_meaning.specs.Housed.{source_of, CodeHoused, MadeIn, AreHoused}
-use Rattle.compile_table.specs.Sequences.{Compiled, in_file, compiled_file, sequences_of, sequence_at, routines, bodies}
+use Rattle.compile_table.specs.Sequences.{Compiled, in_file, compiled_file, sequences_of, routine_of, sequence_at, routines, bodies}
 use Rattle.tree_laws.specs.Formed.{IsFormed}
 use Rattle.tree_laws.proofs.Gathering.{same_is, itself}
 use Rattle.compile_laws.specs.Finds.{FindsBody}
@@ -78,6 +78,11 @@ module _ (path : Bytes) (t : Tree) (kept : IsKept t) where
 
     pub tree_found : IsHoused (Some table) (file_sight t) t
     tree_found = tree_has table t (in_file path t) kept.housed (all_of (Has table) (within path t kept.formed kept.housed kept.apart) has_each)
+
+-- what the tables have by the number of a code's sequence
+pub by_number : (files : Files) (prelude : Tree) (code : Code) → (of : HasSequence files prelude code) →
+    ((tables code.source.path of.tree).seqs of.sequence.inner.number ≡ routine_of of.sequence) × ((tables code.source.path of.tree).bodies of.sequence.inner.number ≡ code.body)
+by_number files prelude code of = (ap routine_of of.of_program.numbered, ap (λ (c : Compiled). c.tree) of.of_program.numbered ∙ of.body)
 
 -- A code of which the body is told, in this sight.
 module _ (files : Files) (prelude t : Tree) (kept : IsKept t) (code : Code) (its : IsTreeOf files prelude code.source code.source.load t) (s : Sight) (scopes : Scopes) (found : bodies_of_tree code.source t (place_of code.body) ≡ Some (s, code.body))
