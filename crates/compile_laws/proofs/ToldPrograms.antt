@@ -19,7 +19,6 @@ use Rattle.compile_table.specs.Sequences.{Compiled, in_file, compiled_file, sequ
 use Rattle.tree_laws.specs.Formed.{IsFormed}
 use Rattle.tree_laws.proofs.Gathering.{same_is, itself}
 use Rattle.compile_laws.specs.Finds.{FindsBody}
-use Rattle.compile_laws.specs.Begins.{IsCodeAt}
 use Rattle.compile_laws.specs.Found.{IsBodyKind, IsFoundBody, IsOfProgram, tables}
 use Rattle.compile_laws.specs.Told.{told_in, told_of, bodies_of_tree, bodies_of_file, bodies_of, told_by, IsTreeOf, HasSequence, IsOfItsFile}
 use Rattle.compile_laws.proofs.ByPlaces.{In, all_of}
