@@ -20,9 +20,9 @@ use Rattle.compile_laws.proofs.ToldRuns.{method_of_file, block_of_file}
 pub method_of_run_begins : (source : SourceTree) (files : Files) (prelude : Tree) → ((path : Bytes) → IsRubyFile (bytes_at source path) (files.ruby path)) → IsPrelude prelude → (w : World) → IsStored w → WorldHoused (told_by files prelude) w → (x : Bytes) (ps : List Place) (f : Found) (code : Code) → find_in w.objects x ps ≡ Some f → f.body ≡ written code → (frame : Frame) (line : ℕ) (self : Value) (name : Bytes) (place : Place) (vs : List Value) (given : Given) (turns : ℕ) → BeginsInItsFile files prelude code (called_frame frame line code self name place vs given turns w) (method_world code vs given turns w)
 method_of_run_begins source files prelude fine is w stored held x ps f code found body frame line self name place vs given turns =
     let k : IsOfItsFile files prelude [] code = method_of_file source files prelude fine is w stored held x ps f code found body in
-    record { tree = k.tree; of_file = k.of_file; inner = k.inner; begins = method_begins (tables code.source.path k.tree) k.inner frame line code self name place vs given turns w k.stands }
+    record { has = k.has; begins = method_begins (tables code.source.path k.has.tree) k.has.sequence.inner frame line code self name place vs given turns w k.stands }
 
 pub block_of_run_begins : (source : SourceTree) (files : Files) (prelude : Tree) → ((path : Bytes) → IsRubyFile (bytes_at source path) (files.ruby path)) → IsPrelude prelude → (w : World) → IsStored w → WorldHoused (told_by files prelude) w → (i : ℕ) (d : Closure) → slice_get w.closures i ≡ Some d → (frame : Frame) (line n : ℕ) (vs : List Value) (turns : ℕ) → BeginsInItsFile files prelude d.code (yielded_frame frame line d n vs turns w) (block_world d vs turns w)
 block_of_run_begins source files prelude fine is w stored held i d e frame line n vs turns =
     let k = block_of_file source files prelude fine is w stored held i d e in
-    record { tree = k.1.tree; of_file = k.1.of_file; inner = k.1.inner; begins = block_begins (tables d.code.source.path k.1.tree) k.1.inner k.0 frame line n vs d turns w k.1.stands k.2 }
+    record { has = k.1.has; begins = block_begins (tables d.code.source.path k.1.has.tree) k.1.has.sequence.inner k.0 frame line n vs d turns w k.1.stands k.2 }

@@ -20,7 +20,9 @@ ghost use Rattle.code_meaning.specs.Frames.{Tables};
 ghost use Rattle.compile_table.specs.Shapes.{Where};
 ghost use Rattle.compile_laws.specs.Calling.{class_world, opened_frame, called_frame, method_world, yielded_frame, block_world};
 ghost use Rattle.compile_laws.specs.Begins.{Begins, IsCodeAt};
-ghost use Rattle.compile_laws.specs.Told.{told_by, IsOfItsFile, BeginsInItsFile};
+ghost use Rattle.compile_table.specs.Sequences.{routine_of};
+ghost use Rattle.compile_laws.specs.Found.{tables};
+ghost use Rattle.compile_laws.specs.Told.{told_by, HasSequence, IsOfItsFile, BeginsInItsFile};
 
 /// In what the files of a source tree and the prelude are read as, each body is one of the program of
 /// its file. Each step of a plain run whose bodies keep this keeps it, so does the evaluation, and
@@ -36,10 +38,12 @@ pub fn runs_keep_codes_of_files()
 /// Each method that is found in such a world and written in Ruby has a code of the unit of its file,
 /// and so has each block, where the environments outward of the one in which it was made have the
 /// names in sight around it. So what `made_frames_begin` asks of a method's and of a block's code
-/// holds in each world that a plain run reaches.
+/// holds in each world that a plain run reaches. By the number of a code's sequence the tables of
+/// its file have the routine of the sequence, and the code's body.
 pub fn codes_of_runs_are_found()
     ensures method { (source : SourceTree) (files : Files) (prelude : Tree) → ((path : Bytes) → IsRubyFile (bytes_at source path) (files.ruby path)) → IsPrelude prelude → (w : World) → IsStored w → WorldHoused (told_by files prelude) w → (x : Bytes) (ps : List Place) (f : Found) (code : Code) → find_in w.objects x ps ≡ Some f → f.body ≡ written code → IsOfItsFile files prelude [] code }
     ensures block { (source : SourceTree) (files : Files) (prelude : Tree) → ((path : Bytes) → IsRubyFile (bytes_at source path) (files.ruby path)) → IsPrelude prelude → (w : World) → IsStored w → WorldHoused (told_by files prelude) w → (i : ℕ) (d : Closure) → slice_get w.closures i ≡ Some d → (scopes : Scopes) × IsOfItsFile files prelude scopes d.code × HaveNames (length w.environments) scopes w.environments (Some d.environment) }
+    ensures sequence { (files : Files) (prelude : Tree) (code : Code) → (of : HasSequence files prelude code) → ((tables code.source.path of.tree).seqs of.sequence.inner.number ≡ routine_of of.sequence) × ((tables code.source.path of.tree).bodies of.sequence.inner.number ≡ code.body) }
 {}
 
 /// So the frame of a call of a method that is found there begins where its code stands in the unit of
