@@ -1,6 +1,8 @@
 -- The sorts of objects.
-use Rattle.std.specs.Prelude.{Bool, true, false}
+use Rattle.std.specs.Prelude.{Bool, true, false, Option, Some, None}
 use Rattle.ruby_meaning.specs.Value as meant
+use Rattle.ruby_meaning.specs.Numbers.{object_class}
+use Rattle.store_values.specs.declared.ids.ClassId.{ClassId}
 use Rattle.ruby_store.specs.declared.object_parts.ObjectKind.{ObjectKind}
 use Rattle.ruby_store.specs.declared.object_parts.ObjectKind.TheVariants as sort
 
@@ -22,3 +24,8 @@ is_elements (meant.span a b e) = false
 is_elements (meant.closed k) = false
 is_elements (meant.plain c) = false
 is_elements (meant.class_or_module c) = false
+
+-- the class, or Object where there is none
+abbrev pub class_or_object : Option ClassId → ClassId
+class_or_object None = record { number = object_class }
+class_or_object (Some c) = c
