@@ -13,7 +13,7 @@ scopes_of xs slots = map (scope_of slots) xs
 
 -- each begins where the one before ends, the first here and the last up to there
 abbrev pub Follow : ℕ → List Extent → ℕ → Type 0
-Follow here [] there = here ≡ there
+Follow here [] there = there ≡ here
 Follow here (x ∷ xs) there = (x.start ≡ here) × (here ≤ x.end) × Follow x.end xs there
 
 -- where a slot of an extent lies

@@ -1,8 +1,8 @@
 //! Environments: the locals of the bodies that run.
-ghost use Rattle.std.specs.Prelude.{◌≡◌, ◌++◌, ◌∷◌, [], length, IfOk, OnOk, OnErr, Some};
-ghost use Rattle.std.specs.List.{replicate};
+ghost use Rattle.std.specs.Prelude.{◌≡◌, ◌++◌, ◌∷◌, [], length, replicate, IfOk, Some};
 ghost use Rattle.std.specs.Option.{option_map};
 ghost use Rattle.store_values.specs.declared.values.Value.TheVariants as value;
+ghost use Rattle.store_parts.specs.Extents.{place_in, place_within};
 ghost use Rattle.store_parts.specs.Scopes.{outward, parent_of, slot_of, with_slot, with_slot_of};
 
 use bs_outside::NoMemory;
@@ -113,6 +113,7 @@ impl Environments {
     }
 
     /// The value in a slot of an environment.
+    #[tactic(auto, using(crate::proofs::Extended::read_some, crate::proofs::Extended::read_beyond, crate::proofs::Extended::read_none))]
     fn slot(&self, env: EnvId, slot: usize) -> Value
         ensures { result ≡ slot_of self.now slot (Some env.number) }
     {
@@ -134,24 +135,37 @@ impl Environments {
     }
 
     /// Another value stands in the slot of an environment now.
+    #[tactic(auto, using(crate::proofs::Extended::set_some, crate::proofs::Extended::set_past, crate::proofs::Extended::set_none))]
     fn set_slot(&mut self, env: EnvId, slot: usize, value: Value)
         ensures { self.new ≡ with_slot self.old env.number slot value }
     {
-        if let Some(place) = place_in(&self.extents, env.number, slot)
-            && place < self.slots.len()
-        {
+        let Some(place) = place_in(&self.extents, env.number, slot) else {
+            return;
+        };
+        if place < self.slots.len() {
             self.slots[place] = value;
         }
     }
 }
 
+/// Where a slot of an extent lies.
+fn place_within(extent: &Extent, slot: usize) -> Option<usize>
+    ensures { result ≡ place_within extent.now slot }
+{
+    let Extent { start, end, .. } = *extent;
+    if slot < end.saturating_sub(start) {
+        return Some(start + slot);
+    }
+    None
+}
+
 /// Where a slot of the extent with this number lies.
+#[tactic(auto, using(crate::proofs::Extended::placed_some, crate::proofs::Extended::placed_none))]
 fn place_in(extents: &[Extent], number: usize, slot: usize) -> Option<usize>
     ensures { result ≡ place_in extents.now number slot }
 {
-    let extent = extents.get(number)?;
-    if slot < extent.end.saturating_sub(extent.start) {
-        return Some(extent.start + slot);
+    match extents.get(number) {
+        Some(extent) => place_within(extent, slot),
+        None => None,
     }
-    None
 }
