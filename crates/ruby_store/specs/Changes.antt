@@ -2,7 +2,7 @@
 use Rattle.std.specs.Prelude.{◌≡◌, ℕ, ◌+◌, ◌<◌, ◌≤◌, Bool, [], ◌∷◌, ◌++◌, length, Option, Result, Ok, Err}
 use Rattle.std.specs.Option.{option_map}
 use Rattle.ruby_meaning.specs.Value as meant
-use Rattle.ruby_meaning.specs.Store.{cell_limit, class_cells, new_object, next_number}
+use Rattle.ruby_meaning.specs.Store.{cell_limit, class_cells, kind_at, new_object, next_number, with_kind}
 use Rattle.store_values.specs.declared.faults.StoreFault.{StoreFault}
 use Rattle.store_values.specs.declared.faults.StoreFault.TheVariants as fault
 use Rattle.store_values.specs.declared.ids.ClassId.{ClassId}
@@ -54,3 +54,14 @@ abbrev pub MakesClass : (Reading → meant.Object) → Store → Result ClassId 
 MakesClass made before (Ok class) after = (before.cells + class_cells ≤ cell_limit) × IsClassMade (before.cells + class_cells) made before after class
 MakesClass made before (Err (fault.Full f)) after = (cell_limit < before.cells + class_cells) × (after ≡ before)
 MakesClass made before (Err fault.NoMemory) after = Unit {0}
+
+-- The object with this number has another kind, so many cells are taken, and all else is as before.
+pub record IsChanged (number cells : ℕ) (change : Reading → meant.Kind → meant.Kind) (before after : Store) : Type 0 where
+  pub rest : after ≡ record before { objects = after.objects; cells = before.cells + cells }
+  pub objects : (read : Reading) → objects_of read after ≡ with_kind (objects_of read before) number (change read (kind_at (objects_of read before) number))
+
+-- The object is changed, or the cells would pass the limit and the store is as before.
+abbrev pub Changes : ℕ → ℕ → (Reading → meant.Kind → meant.Kind) → Store → Result (Unit {0}) StoreFault → Store → Type 0
+Changes number cells change before (Ok u) after = (before.cells + cells ≤ cell_limit) × IsChanged number cells change before after
+Changes number cells change before (Err (fault.Full f)) after = (cell_limit < before.cells + cells) × (after ≡ before)
+Changes number cells change before (Err fault.NoMemory) after = Unit {0}
