@@ -1,2 +1,4 @@
+mod Changed
+mod Elements
 mod Made
 mod Standing

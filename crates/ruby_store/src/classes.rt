@@ -1,7 +1,8 @@
 //! Classes and modules.
-ghost use Rattle.std.specs.Prelude.{◌≡◌, OnOk};
-ghost use Rattle.ruby_meaning.specs.Store.{class_cells, class_of, class_of_kind, is_class_or_module, kind_at};
-ghost use Rattle.ruby_store.specs.Cells.{Takes, OnFull};
+ghost use Rattle.std.specs.Prelude.{◌≡◌, IfOk, Some, None, true, false};
+ghost use Rattle.ruby_meaning.specs.Store.{class_of, class_of_kind, is_class_or_module, kind_at};
+ghost use Rattle.ruby_store.specs.Changes.{IsClassMade, MakesClass, new_class};
+ghost use Rattle.ruby_store.specs.Kinds.{class_or_object};
 ghost use Rattle.ruby_store.specs.Model.{Reading, objects_of, value_of};
 
 use crate::object_parts::{Class, Content};
@@ -51,21 +52,16 @@ impl Store {
         name: Name,
         above: Option<ClassId>,
     ) -> Result<ClassId, StoreFault>
-        ensures cells { Takes self.old.cells (class_cells) result self.new.cells }
-        ensures full { OnFull result (self.new ≡ self.old) }
+        ensures { MakesClass (new_class name.number false (Some (class_or_object above))) self.old result self.new }
     {
         let cells = self.charged(4)?;
-        let above = match above {
-            Some(class) => class,
-            None => OBJECT,
-        };
+        let above = class_or_object(above);
         Ok(self.add_class(alloc, cells, name, false, Some(above))?)
     }
 
     /// Makes a module.
     pub fn new_module(&mut self, alloc: Global, name: Name) -> Result<ClassId, StoreFault>
-        ensures cells { Takes self.old.cells (class_cells) result self.new.cells }
-        ensures full { OnFull result (self.new ≡ self.old) }
+        ensures { MakesClass (new_class name.number true None) self.old result self.new }
     {
         let cells = self.charged(4)?;
         Ok(self.add_class(alloc, cells, name, true, None)?)
@@ -80,7 +76,7 @@ impl Store {
         is_module: bool,
         above: Option<ClassId>,
     ) -> Result<ClassId, NoMemory>
-        ensures { OnOk result (self.new.cells ≡ cells) }
+        ensures { IfOk result (λ class. IsClassMade cells (new_class name.number is_module above) self.old self.new class) }
     {
         let class = ClassId {
             number: self.objects.len(),
@@ -203,5 +199,15 @@ impl Store {
     /// Whether the class is among the ancestors of the value's class.
     pub fn is_a(&self, of: &Value, class: ClassId) -> bool {
         self.has_ancestor(self.class_of(of), class)
+    }
+}
+
+/// The class, or Object where there is none.
+fn class_or_object(class: Option<ClassId>) -> ClassId
+    ensures { result ≡ class_or_object class }
+{
+    match class {
+        Some(class) => class,
+        None => OBJECT,
     }
 }

@@ -1,14 +1,14 @@
 //! What an object and a class have.
-ghost use Rattle.std.specs.Prelude.{◌≡◌};
+ghost use Rattle.std.specs.Prelude.{◌≡◌, ◌++◌, ◌∷◌, [], take, slice_set, OnOk};
 ghost use Rattle.ruby_meaning.specs.Store.{class_of_kind, is_class_or_module};
-ghost use Rattle.ruby_store.specs.Kinds.{is_elements, told_kind};
-ghost use Rattle.ruby_store.specs.Model.{Reading, kind_of};
+ghost use Rattle.ruby_store.specs.Kinds.{bytes_in, elements_by, elements_in, ends_in, is_elements, told_kind};
+ghost use Rattle.ruby_store.specs.Model.{Reading, kind_of, value_of, values_of};
 
 use crate::classes::{ARRAY, CLASS, HASH, MODULE, PROC, RANGE, STRING};
-use bs_outside::Text;
+use bs_outside::{NoMemory, Text};
 use ruby_tree::Name;
 use store_parts::{Elements, HashTable, NameMap, RowTable};
-use store_values::{ClassId, ProcRow};
+use store_values::{ClassId, ProcRow, Value};
 
 /// What sort of object it is.
 #[derive(Clone, Copy, PartialEq, Eq, Debug, Drop)]
@@ -81,6 +81,78 @@ impl Content {
         match self {
             Content::Array(_) => true,
             _ => false,
+        }
+    }
+
+    /// The bytes of a String.
+    pub(crate) fn bytes(&self) -> &[u8]
+        ensures { (read : Reading) → result.now ≡ bytes_in (kind_of read self.now) }
+    {
+        match self {
+            Content::String(text) => text.as_slice(),
+            _ => &[],
+        }
+    }
+
+    /// The ends of a Range, and whether the last is left out.
+    pub(crate) fn ends(&self) -> (i64, i64, bool)
+        ensures { (read : Reading) → result ≡ ends_in (kind_of read self.now) }
+    {
+        match self {
+            Content::Range(ends) => (ends.first, ends.last, ends.exclusive),
+            _ => (0, 0, false),
+        }
+    }
+
+    /// The elements of an Array.
+    pub(crate) fn elements(&self) -> &[Value]
+        ensures { (read : Reading) → values_of read result.now ≡ elements_in (kind_of read self.now) }
+    {
+        match self {
+            Content::Array(elements) => elements.as_slice(),
+            _ => &[],
+        }
+    }
+
+    /// Adds an element behind the last of an Array.
+    pub(crate) fn push(&mut self, value: Value) -> Result<(), NoMemory>
+        ensures { (read : Reading) → OnOk result (kind_of read self.new ≡ elements_by (λ vs. vs ++ value_of read value ∷ []) (kind_of read self.old)) }
+    {
+        match self {
+            Content::Array(elements) => elements.push(value),
+            _ => Ok(()),
+        }
+    }
+
+    /// Adds these elements behind the last of an Array.
+    pub(crate) fn extend(&mut self, values: &[Value]) -> Result<(), NoMemory>
+        ensures { (read : Reading) → OnOk result (kind_of read self.new ≡ elements_by (λ vs. vs ++ values_of read values.now) (kind_of read self.old)) }
+    {
+        match self {
+            Content::Array(elements) => elements.extend(values),
+            _ => Ok(()),
+        }
+    }
+
+    /// Another value stands at the place of an Array now.
+    #[tactic(auto, using(crate::proofs::Elements::map_set))]
+    pub(crate) fn set(&mut self, place: usize, value: Value)
+        ensures { (read : Reading) → kind_of read self.new ≡ elements_by (λ vs. slice_set vs place (value_of read value)) (kind_of read self.old) }
+    {
+        match self {
+            Content::Array(elements) => elements.set(place, value),
+            _ => {}
+        }
+    }
+
+    /// Takes all elements of an Array away but the first `len`.
+    #[tactic(auto, using(crate::proofs::Elements::map_take))]
+    pub(crate) fn truncate(&mut self, len: usize)
+        ensures { (read : Reading) → kind_of read self.new ≡ elements_by (λ vs. take len vs) (kind_of read self.old) }
+    {
+        match self {
+            Content::Array(elements) => elements.truncate(len),
+            _ => {}
         }
     }
 

@@ -3,7 +3,7 @@ ghost use Rattle.std.specs.Prelude.{◌≡◌, ◌+◌, length, IfOk, None, true
 ghost use Rattle.ruby_meaning.specs.Value as meant;
 ghost use Rattle.ruby_meaning.specs.Store.{string_cells, object_cells, range_cells, proc_cells, kind_at, new_object, new_string};
 ghost use Rattle.ruby_store.specs.Changes.{IsAdded, Makes};
-ghost use Rattle.ruby_store.specs.Kinds.{told_kind};
+ghost use Rattle.ruby_store.specs.Kinds.{bytes_in, ends_in, told_kind};
 ghost use Rattle.ruby_store.specs.Model.{Reading, object_of, objects_of};
 
 use crate::object_parts::{Content, Ends, Extras, Object, ObjectKind, Thrown};
@@ -91,9 +91,12 @@ impl Store {
     }
 
     /// The bytes of a String.
-    pub fn string(&self, id: ObjectId) -> &[u8] {
-        match self.text_at(id) {
-            Some(text) => text,
+    #[tactic(auto, using(crate::proofs::Standing::kind_some, crate::proofs::Standing::kind_none))]
+    pub fn string(&self, id: ObjectId) -> &[u8]
+        ensures { (read : Reading) → result.now ≡ bytes_in (kind_at (objects_of read self.now) id.number) }
+    {
+        match self.objects.get(id.number) {
+            Some(object) => object.content.bytes(),
             None => &[],
         }
     }
@@ -131,13 +134,14 @@ impl Store {
     }
 
     /// The first and the last of a Range, and whether the last is left out.
-    pub fn range(&self, id: ObjectId) -> (i64, i64, bool) {
-        if let Some(object) = self.object(id)
-            && let Content::Range(ends) = &object.content
-        {
-            return (ends.first, ends.last, ends.exclusive);
+    #[tactic(auto, using(crate::proofs::Standing::kind_some, crate::proofs::Standing::kind_none))]
+    pub fn range(&self, id: ObjectId) -> (i64, i64, bool)
+        ensures { (read : Reading) → result ≡ ends_in (kind_at (objects_of read self.now) id.number) }
+    {
+        match self.objects.get(id.number) {
+            Some(object) => object.content.ends(),
+            None => (0, 0, false),
         }
-        (0, 0, false)
     }
 
     /// Makes a Proc.

@@ -1,5 +1,8 @@
 //! The store, its cells and its names.
-ghost use Rattle.std.specs.Prelude.{◌≡◌, ◌+◌, ◌<◌, ◌≤◌, MatchResult, OnOk, is_some};
+ghost use Rattle.std.specs.Prelude.{◌≡◌, ◌+◌, ◌<◌, ◌≤◌, ◌++◌, ◌∷◌, [], length, replicate, MatchResult, IfOk, OnOk, is_some};
+ghost use Rattle.std.specs.Option.{option_map};
+ghost use Rattle.store_values.specs.declared.values.Value.TheVariants as value;
+ghost use Rattle.store_parts.specs.Scopes.{outward, slot_of, with_slot_of};
 ghost use Rattle.ruby_meaning.specs.Store.{cell_limit, environment_cells};
 ghost use Rattle.store_parts.specs.Views.{value_named, Sets};
 ghost use Rattle.ruby_meaning.specs.Definitions.{name_cost};
@@ -85,6 +88,9 @@ impl Store {
     pub fn new_env(&mut self, parent: Option<EnvId>, size: u64) -> Result<EnvId, StoreFault>
         ensures cells { Takes self.old.cells (environment_cells size) result self.new.cells }
         ensures full { OnFull result (self.new ≡ self.old) }
+        ensures number { IfOk result (λ env. env.number ≡ length self.old.environments) }
+        ensures added { OnOk result (self.new.environments ≡ self.old.environments ++ record { parent = option_map (λ e. e.number) parent; slots = replicate size value.Nil } ∷ []) }
+        ensures rest { OnOk result (self.new ≡ record self.old { environments = self.new.environments; cells = self.new.cells }) }
     {
         let cells = self.charged(size.saturating_add(1))?;
         let env = self.environments.add(parent, size as usize)?;
@@ -93,12 +99,16 @@ impl Store {
     }
 
     /// The value of a local, in the environment that stands `level` steps outward.
-    pub fn get_local(&self, env: EnvId, idx: u64, level: u64) -> Value {
+    pub fn get_local(&self, env: EnvId, idx: u64, level: u64) -> Value
+        ensures { result ≡ slot_of self.now.environments idx (outward self.now.environments level env.number) }
+    {
         self.environments.get(env, idx as usize, level as usize)
     }
 
     /// Sets a local, in the environment that stands `level` steps outward.
-    pub fn set_local(&mut self, env: EnvId, idx: u64, level: u64, value: Value) {
+    pub fn set_local(&mut self, env: EnvId, idx: u64, level: u64, value: Value)
+        ensures { self.new ≡ record self.old { environments = with_slot_of self.old.environments idx value (outward self.old.environments level env.number) } }
+    {
         self.environments
             .set(env, idx as usize, level as usize, value);
     }

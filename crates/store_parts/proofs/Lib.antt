@@ -1,1 +1,2 @@
 mod Gaps
+mod Extended

@@ -1,2 +1,4 @@
+pub mod Extents
 pub mod Lists
+pub mod Scopes
 pub mod Views
