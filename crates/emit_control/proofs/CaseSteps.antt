@@ -34,7 +34,7 @@ pattern_size l line m n (more t ts) r s e = let f = pattern_size l line m n ts r
 
 patterns_size : (l : Where) (line m n : ℕ) (ws : Whens) → size (patterns_shape l line ws m done) ≡ size (patterns_shape l line ws n done)
 patterns_size l line m n no_when = refl
-patterns_size l line m n (when ts t ws) = pattern_size l line _ _ ts _ _ (patterns_size l line _ _ ws)
+patterns_size l line m n (when ts t ws) = pattern_size l line _ _ ts _ _ (patterns_size l line (m + (size (shape l t) + 2)) (n + (size (shape l t) + 2)) ws)
 
 -- ---- a test before those behind it
 

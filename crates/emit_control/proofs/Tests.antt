@@ -34,7 +34,7 @@ test_size l line m n (more t ts) r s e = let f = test_size l line m n ts r s e i
 
 tests_size : (l : Where) (line m n : ℕ) (ws : Whens) → size (tests_shape l line ws m done) ≡ size (tests_shape l line ws n done)
 tests_size l line m n no_when = refl
-tests_size l line m n (when ts t ws) = test_size l line _ _ ts _ _ (tests_size l line _ _ ws)
+tests_size l line m n (when ts t ws) = test_size l line _ _ ts _ _ (tests_size l line (m + (size (shape l t) + 1)) (n + (size (shape l t) + 1)) ws)
 
 -- ---- a test before those behind it
 

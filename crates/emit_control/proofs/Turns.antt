@@ -134,15 +134,25 @@ turned line h end again u a c w v₁ v₂ v₃ v₄ here number one two three fo
     count : length v₃.steps - suc again ≡ size a + 1 + size c
     count = let e = ap (λ (v : Writing). length v.steps) whole in let f = grown_length h loop jump in omega (arith, counts, number)
 
--- a loop whose body comes first, or not
-pub body_first : (l : Where) (s : SourcePosition) (h : ℕ) (u first : Bool) (t c : Tree) (w v : Writing) → first ≡ true → v ≡ grown h (turns (own l s) u (shape (looped l) t) (shape l c)) w → v ≡ grown h (form_shape l (while_loop t c u first) s) w
-body_first l s h u true t c w v is told = told
-body_first l s h u false t c w v is told = cc
+-- where the condition begins
+pub begun : (line h start : ℕ) (u : Bool) (c : Shape) (w v : Writing) → v ≡ grown h (part 0 c (behind line (branch_by u) 0 (op line PutNil done))) w → start ≡ length v.steps → start ≡ size c + 2 + length w.steps
+begun line h start u c w v is here =
+    let counts = ap (λ (v : Writing). length v.steps) is in
+    let grows = grown_length h (part 0 c (behind line (branch_by u) 0 (op line PutNil done))) w in
+    omega arith
 
-pub test_first : (l : Where) (s : SourcePosition) (h start : ℕ) (u first : Bool) (t c : Tree) (w v₁ v₂ : Writing) → first ≡ false → start ≡ size (shape l c) + 2 + length w.steps → v₁ ≡ grown h (turns (own l s) u (shape (looped l) t) (shape l c)) w → v₂ ≡ wrote (on (own l s) Jump (length v₁.steps - start)) v₁ → v₂ ≡ grown h (form_shape l (while_loop t c u first) s) w
-test_first l s h start u true t c w v₁ v₂ is there one two = cc
-test_first l s h start u false t c w v₁ v₂ is there one two =
+-- a loop whose body comes first, or not
+pub body_first : (l : Where) (s : SourcePosition) (line h : ℕ) (u first : Bool) (t c : Tree) (w v : Writing) → line ≡ own l s → first ≡ true → v ≡ grown h (turns line u (shape (looped l) t) (shape l c)) w → v ≡ grown h (form_shape l (while_loop t c u first) s) w
+body_first l s line h u true t c w v at is told = told ∙ ap (λ (n : ℕ). grown h (turns n u (shape (looped l) t) (shape l c)) w) at
+body_first l s line h u false t c w v at is told = cc
+
+pub test_first : (l : Where) (s : SourcePosition) (line h start : ℕ) (u first : Bool) (t c : Tree) (w v₁ v₂ : Writing) → line ≡ own l s → first ≡ false → start ≡ size (shape l c) + 2 + length w.steps → v₁ ≡ grown h (turns line u (shape (looped l) t) (shape l c)) w → v₂ ≡ wrote (on line Jump (length v₁.steps - start)) v₁ → v₂ ≡ grown h (form_shape l (while_loop t c u first) s) w
+test_first l s line h start u true t c w v₁ v₂ at is there one two = cc
+test_first l s line h start u false t c w v₁ v₂ at is there one two =
     let counts = ap (λ (v : Writing). length v.steps) one in
-    let grows = grown_length h (turns (own l s) u (shape (looped l) t) (shape l c)) w in
+    let grows = grown_length h (turns line u (shape (looped l) t) (shape l c)) w in
     let far : length v₁.steps - start ≡ size (shape (looped l) t) + 1 = omega arith in
-    two ∙ ap (λ (n : ℕ). wrote (on (own l s) Jump n) v₁) far ∙ ap (wrote (on (own l s) Jump (size (shape (looped l) t) + 1))) one
+    two
+    ∙ ap (λ (n : ℕ). wrote (on line Jump n) v₁) far
+    ∙ ap (wrote (on line Jump (size (shape (looped l) t) + 1))) one
+    ∙ ap (λ (n : ℕ). wrote (on n Jump (size (shape (looped l) t) + 1)) (grown h (turns n u (shape (looped l) t) (shape l c)) w)) at
