@@ -13,12 +13,13 @@ use Rattle.code_writer.proofs.Growing.{grown_length}
 use Rattle.emit_control.specs.Starts.{starts}
 
 -- an item before those behind it
-pub drop_before : {X : Type 0} (xs : List X) (i : ℕ) (x : X) → 0 < i → i ≤ length xs → x ≡ get_or xs (i - 1) x → drop (i - 1) xs ≡ x ∷ drop i xs
-drop_before xs i x some within is =
+pub drop_at : {X : Type 0} (xs : List X) (i : ℕ) (d : X) → 0 < i → i ≤ length xs → drop (i - 1) xs ≡ get_or xs (i - 1) d ∷ drop i xs
+drop_at xs i d some within =
     let more : i - 1 + 1 ≡ i = omega (arith, some) in
-    drop_more xs (i - 1) x (omega (arith, some, within))
-    ∙ ap (λ (n : ℕ). get_or xs (i - 1) x ∷ drop n xs) more
-    ∙ ap (λ y. y ∷ drop i xs) (sym is)
+    drop_more xs (i - 1) d (omega (arith, some, within)) ∙ ap (λ (n : ℕ). get_or xs (i - 1) d ∷ drop n xs) more
+
+pub drop_before : {X : Type 0} (xs : List X) (i : ℕ) (x : X) → 0 < i → i ≤ length xs → x ≡ get_or xs (i - 1) x → drop (i - 1) xs ≡ x ∷ drop i xs
+drop_before xs i x some within is = drop_at xs i x some within ∙ ap (λ y. y ∷ drop i xs) (sym is)
 
 -- what is found before those found behind it
 pub found_before : {X : Type 0} (first old new found one : List X) → old ≡ first ++ found → new ≡ old ++ one → new ≡ first ++ (found ++ one)

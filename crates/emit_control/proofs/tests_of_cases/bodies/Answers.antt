@@ -1,4 +1,4 @@
-use Rattle.std.proofs.Common.{◌≡◌, ◌<◌, ◌≤◌, ℕ, List, length, reverse, drop, Vec, sym, subst, arith}
+use Rattle.std.proofs.Common.{◌≡◌, ◌<◌, ◌≤◌, ℕ, ◌-◌, List, length, reverse, drop, get_or, Vec, sym, subst, arith}
 use Rattle.std.specs.declared.alloc.Global.{Global}
 use Rattle.ruby_tree.specs.declared.node.Node.{Node}
 use Rattle.ruby_tree.specs.Read.{tree_of}
@@ -9,16 +9,17 @@ use Rattle.code_emitter.specs.Emitting.{where_of, texts_of, written, children_of
 use Rattle.code_emitter.proofs.Seams.{at_first}
 use Rattle.emit_control.specs.Starts.{starts}
 use Rattle.emit_control.proofs.Tests.{hits_step}
-use Rattle.emit_control.proofs.Places.{drop_before, found_before, places_counted, places_step}
+use Rattle.emit_control.proofs.Places.{drop_at, found_before, places_counted, places_step}
 use Rattle.emit_control.proofs.tests_of_cases.bodies.Goals as goal
 
 pub loop-i-preserved : goal.loop-i-preserved
 loop-i-preserved g c =
     let some : 0 < c.loop-i.i = omega arith in
     let within : c.loop-i.i ≤ length c.args.whens.now = omega arith in
-    let first = sym (drop_before c.args.whens.now c.loop-i.i c.index-whens-i.result some within c.index-whens-i.is) in
-    let ts = read_all (texts_of c.args.emitter.now) c.index-whens-i.result.0.items in
-    let t = tree_of (texts_of c.args.emitter.now) c.index-whens-i.result.1 in
+    let first = sym (drop_at c.args.whens.now c.loop-i.i c.index-whens-i.result some within) in
+    let item = get_or c.args.whens.now (c.loop-i.i - 1) c.index-whens-i.result in
+    let ts = read_all (texts_of c.args.emitter.now) item.0.items in
+    let t = tree_of (texts_of c.args.emitter.now) item.1 in
     let ws = read_whens (texts_of c.args.emitter.now) (drop c.loop-i.i c.args.whens.now) in
     let grows = hits_step (where_of c.args.emitter.now) c.args.line c.args.emitter.now.depth c.len-end.result ts t ws (written c.args.out.now) (written c.loop-i.out) (written c.one_branch.new.out) c.len-end.ensures c.loop-i.invariant.code c.in_ok-one_branch.ensures.code in
     record {
