@@ -1,5 +1,5 @@
 -- The tests and the bodies of a case with a value.
-use Rattle.std.proofs.Common.{◌≡◌, ℕ, suc, ◌+◌, ◌-◌, length, codes, refl, ap, sym, ◌∙◌, arith}
+use Rattle.std.proofs.Common.{◌≡◌, ℕ, ◌+◌, ◌-◌, length, codes, refl, ap, sym, ◌∙◌, arith}
 use Rattle.ruby_tree.specs.Tree.{Tree, Trees, no_more, more, Whens, no_when, when}
 use Rattle.iseq_types.specs.declared.instructions.Instr.TheVariants.{Pop, TopN, BranchIf, Jump}
 use Rattle.code_meaning.specs.Code.{Shape, done, op, ahead, part, size, at_line}

@@ -27,6 +27,6 @@ chosen line h end start c a o w v₁ v₂ v₃ v₄ here one there two three fou
     let counts = over h start (part 0 a (ahead line Jump (length v₁.steps - end) done)) v₁ v₂ there two in
     let far : length v₂.steps - start ≡ size a + 1 = omega arith in
     let holds : v₂ ≡ grown h (part 0 a (ahead line Jump (size o) (part 0 o done))) w =
-      two ∙ ap (λ n. grown h (part 0 a (ahead line Jump n done)) v₁) behind ∙ ap (grown h (part 0 a (ahead line Jump (size o) done))) one in
+    two ∙ ap (λ n. grown h (part 0 a (ahead line Jump n done)) v₁) behind ∙ ap (grown h (part 0 a (ahead line Jump (size o) done))) one in
     four
     ∙ ap (grown (h + 0) c) (three ∙ ap (λ n. wrote (on line BranchUnless n) v₂) far ∙ ap (wrote (on line BranchUnless (size a + 1))) holds)

@@ -126,10 +126,10 @@ turned line h end again u a c w v₁ v₂ v₃ v₄ here number one two three fo
 
     whole : v₃ ≡ grown h loop jump
     whole =
-      three
-      ∙ ap (λ (n : ℕ). grown h (held catches.Next 0 0 (held catches.Break n 0 (part 0 a done) done) done) v₂) far
-      ∙ ap (grown h (held catches.Next 0 0 (held catches.Break (size c + 3) 0 (part 0 a done) done) done)) test
-      ∙ level h a (op line Pop (part 0 c done)) (size c + 3) jump
+        three
+        ∙ ap (λ (n : ℕ). grown h (held catches.Next 0 0 (held catches.Break n 0 (part 0 a done) done) done) v₂) far
+        ∙ ap (grown h (held catches.Next 0 0 (held catches.Break (size c + 3) 0 (part 0 a done) done) done)) test
+        ∙ level h a (op line Pop (part 0 c done)) (size c + 3) jump
 
     count : length v₃.steps - suc again ≡ size a + 1 + size c
     count = let e = ap (λ (v : Writing). length v.steps) whole in let f = grown_length h loop jump in omega (arith, counts, number)

@@ -37,7 +37,16 @@ pub fn control<'a, N: Nodes<'a>>(
             if_else(emitter, below, line, condition, tree, last, out)
         }
         Control::While(body, condition, until, body_first) => {
-            while_loop(emitter, below, at, body, condition, *until, *body_first, out)
+            while_loop(
+                emitter,
+                below,
+                at,
+                body,
+                condition,
+                *until,
+                *body_first,
+                out,
+            )
         }
         Control::Case(value, whens, last) => case_of(emitter, below, line, value, whens, last, out),
         Control::CaseTests(whens, last) => case_tests(emitter, below, line, whens, last, out),

@@ -1,4 +1,4 @@
-use Rattle.std.proofs.Common.{◌≡◌, ◌<◌, ◌≤◌, ℕ, ◌-◌, List, length, reverse, drop, get_or, Vec, sym, subst, arith}
+use Rattle.std.proofs.Common.{◌≡◌, ◌<◌, ◌≤◌, ◌-◌, List, length, reverse, drop, get_or, Vec, sym, subst, arith}
 use Rattle.std.specs.declared.alloc.Global.{Global}
 use Rattle.ruby_tree.specs.declared.node.Node.{Node}
 use Rattle.ruby_tree.specs.Read.{tree_of}
@@ -25,11 +25,11 @@ loop-i-preserved g c =
     record {
       code = subst (λ (ps : List (Vec Node Global × Node)). Writes c.args.emitter.now.depth (cases_shape (where_of c.args.emitter.now) c.args.line (read_whens (texts_of c.args.emitter.now) ps)) c.args.out.now c.body.new.out) first grows;
       children = subst (λ (ps : List (Vec Node Global × Node)). Finds (texts_of c.args.emitter.now) (whens_direct c.args.emitter.now.in_loop (read_whens (texts_of c.args.emitter.now) ps)) c.args.out.now c.body.new.out) first
-        (found_before (children_of (texts_of c.args.emitter.now) c.args.out.now) (children_of (texts_of c.args.emitter.now) c.loop-i.out) (children_of (texts_of c.args.emitter.now) c.body.new.out)
-        (whens_direct c.args.emitter.now.in_loop ws) (direct c.args.emitter.now.in_loop t) c.loop-i.invariant.children c.in_ok-body.ensures.children);
+          (found_before (children_of (texts_of c.args.emitter.now) c.args.out.now) (children_of (texts_of c.args.emitter.now) c.loop-i.out) (children_of (texts_of c.args.emitter.now) c.body.new.out)
+          (whens_direct c.args.emitter.now.in_loop ws) (direct c.args.emitter.now.in_loop t) c.loop-i.invariant.children c.in_ok-body.ensures.children);
       places = subst (λ (ps : List (Vec Node Global × Node)). c.push.new.self.items ≡ reverse (starts (cases_shape (where_of c.args.emitter.now) c.args.line) (length (written c.args.out.now).steps) (read_whens (texts_of c.args.emitter.now) ps))) first
-        (places_step (cases_shape (where_of c.args.emitter.now) c.args.line) c.args.emitter.now.depth c.len.result ts t ws (written c.args.out.now) (written c.body.new.out) c.loop-i.starts.items c.push.new.self.items
-        grows c.len.ensures c.loop-i.invariant.places c.in_ok-push.ensures.items);
+          (places_step (cases_shape (where_of c.args.emitter.now) c.args.line) c.args.emitter.now.depth c.len.result ts t ws (written c.args.out.now) (written c.body.new.out) c.loop-i.starts.items c.push.new.self.items
+          grows c.len.ensures c.loop-i.invariant.places c.in_ok-push.ensures.items);
     }
 
 pub returns-clause-code : goal.returns-clause-code

@@ -26,14 +26,14 @@ loop-i-preserved g c =
     let ws = read_whens (texts_of c.args.emitter.now) (drop c.loop-i.i c.args.whens.now) in
     record {
       code = λ n far are. subst (λ (ps : List (Vec Node Global × Node)). length (written c.args.out.now).steps ≡ far + (size (cases_shape (where_of c.args.emitter.now) c.args.line (read_whens (texts_of c.args.emitter.now) ps)) + n) → Writes c.args.emitter.now.depth (patterns_shape (where_of c.args.emitter.now) c.args.line (read_whens (texts_of c.args.emitter.now) ps) far done) c.args.out.now c.alternatives.new.out) first
-        (λ place. patterns_step (where_of c.args.emitter.now) c.args.line c.args.emitter.now.depth n start far ts t ws (written c.args.out.now) (written c.loop-i.out) (written c.alternatives.new.out) place
-        (ap (λ (xs : List ℕ). get_or xs (c.loop-i.i - 1) 0) are ∙ place_at (texts_of c.args.emitter.now) (cases_shape (where_of c.args.emitter.now) c.args.line) n (c.loop-i.i - 1) 0 c.args.whens.now inside ∙ ap (λ (ps : List (Vec Node Global × Node)). size (cases_shape (where_of c.args.emitter.now) c.args.line (read_whens (texts_of c.args.emitter.now) ps)) + n) (sym first))
-        (λ m rest. c.loop-i.invariant.code n m are rest)
-        (λ m reach. c.in_ok-alternatives.ensures.code m reach ∙ ap (λ (ns : List Node). grown c.args.emitter.now.depth (pattern_shape (where_of c.args.emitter.now) c.args.line (read_all (texts_of c.args.emitter.now) ns) m done) (written c.loop-i.out)) c.deref.ensures.value));
+          (λ place. patterns_step (where_of c.args.emitter.now) c.args.line c.args.emitter.now.depth n start far ts t ws (written c.args.out.now) (written c.loop-i.out) (written c.alternatives.new.out) place
+          (ap (λ (xs : List ℕ). get_or xs (c.loop-i.i - 1) 0) are ∙ place_at (texts_of c.args.emitter.now) (cases_shape (where_of c.args.emitter.now) c.args.line) n (c.loop-i.i - 1) 0 c.args.whens.now inside ∙ ap (λ (ps : List (Vec Node Global × Node)). size (cases_shape (where_of c.args.emitter.now) c.args.line (read_whens (texts_of c.args.emitter.now) ps)) + n) (sym first))
+          (λ m rest. c.loop-i.invariant.code n m are rest)
+          (λ m reach. c.in_ok-alternatives.ensures.code m reach ∙ ap (λ (ns : List Node). grown c.args.emitter.now.depth (pattern_shape (where_of c.args.emitter.now) c.args.line (read_all (texts_of c.args.emitter.now) ns) m done) (written c.loop-i.out)) c.deref.ensures.value));
       children = subst (λ (ps : List (Vec Node Global × Node)). Finds (texts_of c.args.emitter.now) (patterns_direct c.args.emitter.now.in_loop (read_whens (texts_of c.args.emitter.now) ps)) c.args.out.now c.alternatives.new.out) first
-        (found_before (children_of (texts_of c.args.emitter.now) c.args.out.now) (children_of (texts_of c.args.emitter.now) c.loop-i.out) (children_of (texts_of c.args.emitter.now) c.alternatives.new.out)
-        (patterns_direct c.args.emitter.now.in_loop ws) (trees_direct c.args.emitter.now.in_loop ts) c.loop-i.invariant.children
-        (c.in_ok-alternatives.ensures.children ∙ ap (λ (ns : List Node). children_of (texts_of c.args.emitter.now) c.loop-i.out ++ trees_direct c.args.emitter.now.in_loop (read_all (texts_of c.args.emitter.now) ns)) c.deref.ensures.value));
+          (found_before (children_of (texts_of c.args.emitter.now) c.args.out.now) (children_of (texts_of c.args.emitter.now) c.loop-i.out) (children_of (texts_of c.args.emitter.now) c.alternatives.new.out)
+          (patterns_direct c.args.emitter.now.in_loop ws) (trees_direct c.args.emitter.now.in_loop ts) c.loop-i.invariant.children
+          (c.in_ok-alternatives.ensures.children ∙ ap (λ (ns : List Node). children_of (texts_of c.args.emitter.now) c.loop-i.out ++ trees_direct c.args.emitter.now.in_loop (read_all (texts_of c.args.emitter.now) ns)) c.deref.ensures.value));
     }
 
 pub returns-clause-children : goal.returns-clause-children

@@ -1,4 +1,4 @@
-use Rattle.std.proofs.Common.{ℕ, drop}
+use Rattle.std.proofs.Common.{drop}
 use Rattle.ruby_tree.specs.Views.{read_all}
 use Rattle.compile_table.specs.Shapes.{rest_shape}
 use Rattle.code_emitter.specs.Children.{trees_direct}

@@ -1,4 +1,4 @@
-use Rattle.std.proofs.Common.{◌≡◌, ◌<◌, ◌≤◌, ℕ, ◌+◌, List, length, drop, sym, subst, arith}
+use Rattle.std.proofs.Common.{◌<◌, ◌≤◌, List, length, drop, sym, subst, arith}
 use Rattle.ruby_tree.specs.declared.node.Node.{Node}
 use Rattle.ruby_tree.specs.Read.{tree_of}
 use Rattle.ruby_tree.specs.Views.{read_all}
@@ -18,12 +18,12 @@ loop-i-preserved g c =
     let first = sym (drop_before c.args.trees.now c.loop-i.i c.index-trees-i.result some within c.index-trees-i.is) in
     record {
       code = λ far place. subst (λ (ns : List Node). Writes c.args.emitter.now.depth (test_shape (where_of c.args.emitter.now) c.args.line (read_all (texts_of c.args.emitter.now) ns) far done) c.args.out.now c.test.new.out) first
-        (test_step (where_of c.args.emitter.now) c.args.line c.args.emitter.now.depth c.args.start far (tree_of (texts_of c.args.emitter.now) c.index-trees-i.result) (read_all (texts_of c.args.emitter.now) (drop c.loop-i.i c.args.trees.now))
-        (written c.args.out.now) (written c.loop-i.out) (written c.test.new.out) place (c.loop-i.invariant.code far place) c.in_ok-test.ensures.code);
+          (test_step (where_of c.args.emitter.now) c.args.line c.args.emitter.now.depth c.args.start far (tree_of (texts_of c.args.emitter.now) c.index-trees-i.result) (read_all (texts_of c.args.emitter.now) (drop c.loop-i.i c.args.trees.now))
+          (written c.args.out.now) (written c.loop-i.out) (written c.test.new.out) place (c.loop-i.invariant.code far place) c.in_ok-test.ensures.code);
       children = subst (λ (ns : List Node). Finds (texts_of c.args.emitter.now) (trees_direct c.args.emitter.now.in_loop (read_all (texts_of c.args.emitter.now) ns)) c.args.out.now c.test.new.out) first
-        (found_before (children_of (texts_of c.args.emitter.now) c.args.out.now) (children_of (texts_of c.args.emitter.now) c.loop-i.out) (children_of (texts_of c.args.emitter.now) c.test.new.out)
-        (trees_direct c.args.emitter.now.in_loop (read_all (texts_of c.args.emitter.now) (drop c.loop-i.i c.args.trees.now))) (direct c.args.emitter.now.in_loop (tree_of (texts_of c.args.emitter.now) c.index-trees-i.result))
-        c.loop-i.invariant.children c.in_ok-test.ensures.children);
+          (found_before (children_of (texts_of c.args.emitter.now) c.args.out.now) (children_of (texts_of c.args.emitter.now) c.loop-i.out) (children_of (texts_of c.args.emitter.now) c.test.new.out)
+          (trees_direct c.args.emitter.now.in_loop (read_all (texts_of c.args.emitter.now) (drop c.loop-i.i c.args.trees.now))) (direct c.args.emitter.now.in_loop (tree_of (texts_of c.args.emitter.now) c.index-trees-i.result))
+          c.loop-i.invariant.children c.in_ok-test.ensures.children);
     }
 
 pub returns-clause-children : goal.returns-clause-children
