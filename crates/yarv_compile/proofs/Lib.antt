@@ -3,4 +3,4 @@ mod DirectChildren
 mod ByPlaces
 mod ByNumbers
 pub mod Alike
-pub mod Entries
+pub mod Lifted

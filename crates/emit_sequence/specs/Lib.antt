@@ -1,0 +1,2 @@
+pub mod NodesWritten
+pub mod Starts
