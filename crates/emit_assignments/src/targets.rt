@@ -69,8 +69,7 @@ fn spread<'a>(
     set_targets(emitter, line, targets, out)?;
     out.code
         .write(line, Instr::ExpandArray(targets.len() as u64))?;
-    out.code.write(line, Instr::Dup)?;
-    Ok(())
+    out.code.write(line, Instr::Dup)
 }
 
 /// Writes the sets of targets, in order.
